@@ -1,0 +1,10 @@
+-- The laws of this crate's definitions, and those that let `omega` read ℤ.
+pub mod Integers
+pub mod Held
+pub mod Sides
+pub mod Positions
+pub mod Divisions
+pub mod Pieces
+pub mod RuledOut
+pub mod LittleEndian
+pub mod Laying

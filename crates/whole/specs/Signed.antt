@@ -1,0 +1,17 @@
+-- A whole number is a length to a side of zero.
+use Prim.Native.Nat.{ℕ, zero, suc}
+use lib.IntN.{ℤ, pos, negsuc, negℤ}
+use Rattle.whole.specs.declared.signed.Side.{Side}
+use Rattle.whole.specs.declared.signed.Side.the-variants.{Minus, Zero, Plus}
+
+-- the side of zero on which a number lies
+abbrev pub sideOf : ℤ → Side
+sideOf (pos zero) = Zero
+sideOf (pos (suc n)) = Plus
+sideOf (negsuc n) = Minus
+
+-- the length n laid off to a side
+abbrev pub along : Side → ℕ → ℤ
+along Minus n = negℤ (pos n)
+along Zero n = pos 0
+along Plus n = pos n
