@@ -80,7 +80,7 @@ evenly e d pe pd = record {
   adds-up = pieces-sum e n pn;
   within = least e n d pn (omega (arith, is, lt-mul-div-succ (e - 1) pd, ap (λ (k : ℕ). d * k) is));
   fewest = λ o t l.
-  omega (arith, is, pieces-length e n pn, div-lt-iff-lt-mul {k = d} {x = e - 1} {y = length o} pd .1 (omega (arith, bounded o, mul-le-mul-left (length o) l)));
+      omega (arith, is, pieces-length e n pn, div-lt-iff-lt-mul {k = d} {x = e - 1} {y = length o} pd .1 (omega (arith, bounded o, mul-le-mul-left (length o) l)));
   flattest = λ o t l. least e n (greatest o) pn (subst (λ (k : ℕ). e ≤ k * greatest o) (l ∙ pieces-length e n pn) (omega (arith, bounded o)));
 }
   where

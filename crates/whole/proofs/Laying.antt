@@ -1,9 +1,9 @@
 -- Laws of `laid`, a buffer with some bytes in the place of others.
 -- Assumes nothing.
-use mathlib.Core.Path.{_≡_, refl, sym, ap, _∙_}
+use mathlib.Core.Path.{_≡_, refl, sym, ap, _∙_, subst}
 use mathlib.Core.List.{List, [], _∷_, _++_, append-assoc, append-nil}
 use Prim.Native.Nat.{ℕ, suc, _+_, _-_, _*_, _≤_, _<_}
-use native.Mathlib.Nat.{add-zero, add-assoc}
+use native.Mathlib.Nat.{add-zero, zero-add, add-assoc}
 use native.Mathlib.Omega.{arith}
 use lib.ListN.{length, getD, take, drop, set, length-append, length-take, length-drop, take-append-drop, drop-of-length-le}
 use lib.Seq.{take-at, drop-at, drop-drop, take-all, length-take-le, sets, sets-eq}
@@ -35,13 +35,13 @@ laid-laid b at v w h =
     ∙ append-assoc (take at b) v (w ++ drop (at + length (v ++ w)) b)
     ∙ ap (λ (x : List ℕ). take at b ++ x) (sym (append-assoc v w (drop (at + length (v ++ w)) b)))
 
--- a part from `a` on that was lent, and came back with w at its front
-pub lent : (b : List ℕ) (a : ℕ) (w ys : List ℕ) → ys ≡ w ++ drop (length w) (take (length b - a) (drop a b)) → putMid a (length b - a) b ys ≡ laid b a w
+-- a part from `a` on that was lent, and came back with w laid at its front
+pub lent : (b : List ℕ) (a : ℕ) (w ys : List ℕ) → ys ≡ laid (take (length b - a) (drop a b)) 0 w → putMid a (length b - a) b ys ≡ laid b a w
 unfolding laid
 lent b a w ys e =
     let k : ℕ = length b - a in
     let l : length (drop a b) ≤ k = omega (arith, length-drop a b) in
-    ap (λ (x : List ℕ). take a b ++ (x ++ drop k (drop a b))) e
+    ap (λ (x : List ℕ). take a b ++ (x ++ drop k (drop a b))) (e ∙ ap (λ (n : ℕ). w ++ drop n (take k (drop a b))) (zero-add (length w)))
     ∙ ap (λ (x : List ℕ). take a b ++ ((w ++ drop (length w) x) ++ drop k (drop a b))) (take-all k (drop a b) l)
     ∙ ap (λ (x : List ℕ). take a b ++ ((w ++ drop (length w) (drop a b)) ++ x)) (drop-of-length-le (drop a b) l)
     ∙ ap (λ (x : List ℕ). take a b ++ x) (append-nil (w ++ drop (length w) (drop a b)))
@@ -62,3 +62,8 @@ four-laid b at (w0 ∷ (w1 ∷ (w2 ∷ (w3 ∷ [])))) h k =
     (λ i. set (set (set (set b at w0) (one i) w1) (two i) w2) (three i) w3) ∙ sets-eq (w0 ∷ (w1 ∷ (w2 ∷ (w3 ∷ [])))) b at k
     ∙ append-assoc (take at b) (w0 ∷ (w1 ∷ (w2 ∷ (w3 ∷ [])))) (drop (at + 4) b)
 four-laid b at (w0 ∷ (w1 ∷ (w2 ∷ (w3 ∷ (w4 ∷ w))))) h k = absurd (omega arith)
+
+-- bytes laid where others end are laid with them
+pub laid-on : (b : List ℕ) (at : ℕ) (v w : List ℕ) (n : ℕ) → at + length v ≡ n → n ≤ length b → laid (laid b at v) n w ≡ laid b at (v ++ w)
+laid-on b at v w n e h =
+    ap (λ (k : ℕ). laid (laid b at v) k w) (sym e) ∙ laid-laid b at v w (subst (λ (k : ℕ). k ≤ length b) (sym e) h)

@@ -64,3 +64,7 @@ word-fits (negsuc n) f = omega arith
 pub signed-read-back : (z : ℤ) → SFits w32 z → signedOf (valueOf (signedBytes z)) ≡ z
 unfolding signedBytes
 signed-read-back z f = ap signedOf (read-back 4 (wordOf z) (word-fits z f)) ∙ signed-word z f
+
+pub length-signed : (z : ℤ) → length (signedBytes z) ≡ 4
+unfolding signedBytes
+length-signed z = length-little 4 (wordOf z)

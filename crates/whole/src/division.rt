@@ -20,7 +20,11 @@ pub fn piece(length: u32, n: u32, k: u32) -> u32
     ensures { λ r. ⌜ r ≡ getD (pieces length n) k 0 ⌝ }
 {
     let quotient = length / n;
-    if k < length % n { quotient + 1 } else { quotient }
+    let longer = length % n;
+    if k < longer {
+        return quotient + 1;
+    }
+    quotient
 }
 
 // The line after the first k of the n pieces of a length, measured from where it begins.
@@ -31,5 +35,5 @@ pub fn line_after(length: u32, n: u32, k: u32) -> u32
     let quotient = length / n;
     let longer = length % n;
     let base = k * quotient;
-    if k < longer { base + k } else { base + longer }
+    if longer < k { base + longer } else { base + k }
 }

@@ -14,8 +14,8 @@ div-quotient : tie.Need-div-quotient
 div-quotient c = search needs
 
 -- src/division.rt:23:12
-rem-if1 : tie.Need-rem-if1
-rem-if1 c = search needs
+rem-longer : tie.Need-rem-longer
+rem-longer c = search needs
 
 -- src/division.rt:23:25
 add-result : tie.Need-add-result
@@ -33,4 +33,4 @@ returns-2 : tie.Need-returns-2
 returns-2 c = let s = c .before in sym (piece-later (s .args .length) (s .args .n) (s .args .k) (c .if1 .left) (s .pre))
 
 pub piece-spec : {M : Type 1} → statement M
-piece-spec = tie.close (tie.spec div-quotient rem-if1 add-result returns returns-2)
+piece-spec = tie.close (tie.spec div-quotient rem-longer add-result returns returns-2)

@@ -1,0 +1,3 @@
+-- The laws of the form of the list.
+pub mod Writing
+pub mod OneReading

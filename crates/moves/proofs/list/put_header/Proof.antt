@@ -1,0 +1,77 @@
+use borrow.Author.Needs.{needs}
+use mathlib.Core.Path.{_≡_, _∙_}
+use mathlib.Core.List.{[], _∷_}
+use lib.ListN.{getD}
+use Rattle.whole.specs.Bytes.{littleEndian, laid}
+use Rattle.moves.proofs.Writing.{header-laid}
+use Rattle.moves.proofs.list.put_header.Statement.{statement}
+use Rattle.moves.proofs.list.put_header.Tie as tie
+use Rattle.moves.proofs.list.put_header.Reads as reads
+use Rattle.moves.proofs.list.put_header.Lts as lts
+use Rattle.whole.proofs.bytes.bytes_of_u16.Reads as bytes-of-u16-reads
+use Rattle.whole.proofs.bytes.put_four.Reads as put-four-reads
+
+-- src/list.rt:54:19
+bytes-of-u16-requires : tie.Need-bytes-of-u16-requires
+bytes-of-u16-requires c κs = search needs
+
+-- src/list.rt:55:19
+bytes-of-u16-requires-2 : tie.Need-bytes-of-u16-requires-2
+bytes-of-u16-requires-2 c κs = search needs
+
+-- src/list.rt:56:55
+array-read-t11 : tie.Need-array-read-t11
+array-read-t11 c = search needs
+
+-- src/list.rt:56:5
+put-four-requires : tie.Need-put-four-requires
+put-four-requires c κs = search needs
+
+-- src/list.rt:57:37
+array-read-t11-2 : tie.Need-array-read-t11-2
+array-read-t11-2 c = search needs
+
+-- src/list.rt:57:49
+array-read-t19 : tie.Need-array-read-t19
+array-read-t19 c = search needs
+
+-- src/list.rt:57:61
+array-read-t22 : tie.Need-array-read-t22
+array-read-t22 c = search needs
+
+-- src/list.rt:57:5
+put-four-requires-2 : tie.Need-put-four-requires-2
+put-four-requires-2 c κs = search needs
+
+-- src/list.rt:50:1
+same-length : tie.Need-same-length
+same-length c = search needs
+
+-- src/list.rt:50:1
+returns : tie.Need-returns
+returns c =
+    let p2 = c .before .before in
+    let p1 = p2 .before .before .before .before in
+    let n = p1 .before .before in
+    let v = n .before in
+    let s = v .before .before in
+    p2 .put-four2 .ensures
+    ∙ (λ i. laid (p1 .put-four .ensures i) 4 (getD (v .bytes-of-u16 .ensures i) 1 0 ∷ getD (n .bytes-of-u162 .ensures i) 0 0 ∷ getD (n .bytes-of-u162 .ensures i) 1 0 ∷ 0 ∷ []))
+    ∙ (λ i. laid (laid (s .args .buf .now) 0 (84 ∷ 77 ∷ 86 ∷ getD (v .bytes-of-u16 .ensures i) 0 0 ∷ [])) 4
+    (0 ∷ getD (littleEndian 2 (s .args .count)) 0 0 ∷ getD (littleEndian 2 (s .args .count)) 1 0 ∷ 0 ∷ []))
+    ∙ header-laid (s .args .buf .now) (s .args .count) (s .pre)
+
+pub put-header-spec : {M : Type 1} → statement M
+put-header-spec =
+    tie.close
+    (tie.spec
+    bytes-of-u16-requires
+    bytes-of-u16-requires-2
+    array-read-t11
+    put-four-requires
+    array-read-t11-2
+    array-read-t19
+    array-read-t22
+    put-four-requires-2
+    same-length
+    returns)

@@ -1,0 +1,21 @@
+use borrow.Author.Needs.{needs}
+use mir.Facts.{toZ-ofZ}
+use Rattle.moves.specs.Kinds.{flagged}
+use Rattle.moves.proofs.record.Record.feed.Statement.{statement}
+use Rattle.moves.proofs.record.Record.feed.Tie as tie
+use Rattle.moves.proofs.record.Record.feed.Reads as reads
+use Rattle.moves.proofs.record.Record.feed.Lts as lts
+use Rattle.moves.proofs.record.flag_if.Reads as flag-if-reads
+
+-- src/record.rt:51:13
+flag-if-requires : tie.Need-flag-if-requires
+flag-if-requires c κs = search needs
+
+-- src/record.rt:48:5
+returns : tie.Need-returns
+returns c =
+    let s = c .before in
+    λ i. flagged 2 (c .flag-if .ensures i) (toZ-ofZ (s .fits .x) i) (toZ-ofZ (s .fits .z) i) (s .args .f)
+
+pub feed-spec : {M : Type 1} → statement M
+feed-spec = tie.close (tie.spec flag-if-requires returns)

@@ -1,0 +1,21 @@
+use borrow.Author.Needs.{needs}
+use mir.Facts.{toZ-ofZ}
+use Rattle.moves.specs.Kinds.{flagged}
+use Rattle.moves.proofs.record.Record.speed.Statement.{statement}
+use Rattle.moves.proofs.record.Record.speed.Tie as tie
+use Rattle.moves.proofs.record.Record.speed.Reads as reads
+use Rattle.moves.proofs.record.Record.speed.Lts as lts
+use Rattle.moves.proofs.record.flag_if.Reads as flag-if-reads
+
+-- src/record.rt:112:13
+flag-if-requires : tie.Need-flag-if-requires
+flag-if-requires c κs = search needs
+
+-- src/record.rt:109:5
+returns : tie.Need-returns
+returns c =
+    let s = c .before in
+    λ i. flagged 7 (c .flag-if .ensures i) (toZ-ofZ (s .fits .x) i) (toZ-ofZ (s .fits .z) i) (s .args .s)
+
+pub speed-spec : {M : Type 1} → statement M
+speed-spec = tie.close (tie.spec flag-if-requires returns)

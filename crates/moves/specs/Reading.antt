@@ -1,0 +1,33 @@
+-- How bytes are read as records. The reading takes the fields from their places and judges nothing: that bytes are in the form of a list is
+-- said by `listBytes` alone, and that what was written so is read so is a law (proofs/OneReading.antt).
+use mathlib.Core.List.{List, [], _∷_}
+use Prim.Native.Nat.{ℕ, zero, suc}
+use lib.ListN.{getD, take, drop}
+use Rattle.whole.specs.Bytes.{valueOf, signedOf}
+use Rattle.moves.specs.declared.record.Record.{Record}
+use Rattle.moves.specs.Form.{headerSize, recordSize, recordStart}
+
+-- the number of the n bytes from place i on
+abbrev pub numberAt : List ℕ → ℕ → ℕ → ℕ
+numberAt b i n = valueOf (take n (drop i b))
+
+-- the record at the front of some bytes
+unfoldable pub recordIn : List ℕ → Record
+recordIn b = record { kind = getD b 0 0; flags = getD b 1 0; x = signedOf (numberAt b 4 4); z = signedOf (numberAt b 8 4); value = numberAt b 12 4 }
+
+-- so many records, from the front of some bytes on
+unfoldable pub rowIn : ℕ → List ℕ → List Record
+rowIn zero b = []
+rowIn (suc n) b = recordIn b ∷ rowIn n (drop recordSize b)
+
+-- n records of a buffer, from record k on
+abbrev pub recordsIn : List ℕ → ℕ → ℕ → List Record
+recordsIn b k n = rowIn n (drop (recordStart k) b)
+
+-- the count that a header gives
+abbrev pub countIn : List ℕ → ℕ
+countIn b = numberAt b 5 2
+
+-- the list that a buffer holds, where its bytes begin with those of a list
+unfoldable pub listIn : List ℕ → List Record
+listIn b = rowIn (countIn b) (drop headerSize b)

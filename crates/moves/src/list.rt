@@ -1,0 +1,57 @@
+// The list in the lent buffer: the room it has, a record written at its place, and the header, which is written last.
+// Every function that writes says what all of the slice that it is lent holds after it: bytes that it does not name are as they came.
+ghost use mathlib.Core.Path.{_≡_};
+ghost use Prim.Native.Nat.{_+_, _≤_};
+ghost use lib.ListN.{length};
+ghost use Rattle.whole.specs.Bytes.{laid};
+ghost use Rattle.moves.specs.Form.{headerSize, recordSize, recordStart, roomOf, recordBytes, headerBytes};
+use crate::record::Record;
+
+// How many records a buffer of so many bytes has room for, within the limit.
+pub fn room(bytes: usize) -> usize
+    ensures { λ r. ⌜ r ≡ roomOf bytes ⌝ }
+{
+    if bytes < crate::HEADER_SIZE {
+        return 0;
+    }
+    let records = (bytes - crate::HEADER_SIZE) / crate::RECORD_SIZE;
+    if records < crate::RECORD_LIMIT {
+        return records;
+    }
+    crate::RECORD_LIMIT
+}
+
+// Writes a record at the front of the part that it is lent, which begins at the record's first byte.
+// Whoever lends the part has asked for the room before: a block is refused as a whole where it has none (alarm 20).
+pub fn put_record(part: &mut [u8], what: Record)
+    requires { ⌜ recordSize ≤ length (now part) ⌝ }
+    ensures { λ _. ⌜ now (part .exit) ≡ laid (now (part .entry)) 0 (recordBytes what) ⌝ }
+{
+    let x = whole::bytes::bytes_of_i32(what.x);
+    let z = whole::bytes::bytes_of_i32(what.z);
+    let value = whole::bytes::bytes_of_u32(what.value);
+    whole::bytes::put_four(part, 0, [what.kind, what.flags, 0, 0]);
+    whole::bytes::put_four(part, 4, x);
+    whole::bytes::put_four(part, 8, z);
+    whole::bytes::put_four(part, 12, value);
+}
+
+// Writes record number k, from 0, of the list. (01: "written into the room after the header".)
+pub fn write_record(buf: &mut [u8], k: usize, what: Record)
+    requires { ⌜ recordStart k + recordSize ≤ length (now buf) ⌝ }
+    ensures { λ _. ⌜ now (buf .exit) ≡ laid (now (buf .entry)) (recordStart k) (recordBytes what) ⌝ }
+{
+    let first = crate::HEADER_SIZE + crate::RECORD_SIZE * k;
+    put_record(&mut buf[first..], what);
+}
+
+// Writes the header of a list of so many records. (01: "The header is written only when the run succeeds".)
+pub fn put_header(buf: &mut [u8], count: u16)
+    requires { ⌜ headerSize ≤ length (now buf) ⌝ }
+    ensures { λ _. ⌜ now (buf .exit) ≡ laid (now (buf .entry)) 0 (headerBytes count) ⌝ }
+{
+    let version = whole::bytes::bytes_of_u16(crate::VERSION);
+    let records = whole::bytes::bytes_of_u16(count);
+    whole::bytes::put_four(buf, 0, [b'T', b'M', b'V', version[0]]);
+    whole::bytes::put_four(buf, 4, [version[1], records[0], records[1], 0]);
+}

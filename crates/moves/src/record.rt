@@ -1,0 +1,127 @@
+// A record of the list: what is done, and the machine position after it, with a function for each kind.
+// The kinds' numbers and flags stand here, and in specs/Kinds.antt for the contracts.
+ghost use mathlib.Core.Path.{_≡_};
+ghost use mathlib.Core.Bool.{cond};
+ghost use Rattle.moves.specs.Kinds.{rapid, feed, thread, dwell, tool, miscellaneous, speed};
+
+pub struct Record {
+    pub kind: u8,
+    pub flags: u8,
+    pub x: i32,
+    pub z: i32,
+    pub value: u32,
+}
+
+impl Record {
+    pub const RAPID: u8 = 1;
+
+    pub const FEED: u8 = 2;
+
+    pub const THREAD: u8 = 3;
+
+    pub const DWELL: u8 = 4;
+
+    pub const TOOL: u8 = 5;
+
+    pub const MISCELLANEOUS: u8 = 6;
+
+    pub const SPEED: u8 = 7;
+
+    // The flag of a feed record under G95.
+    pub const FLAG_G95: u8 = 1;
+
+    // The flag of a speed record under G96.
+    pub const FLAG_G96: u8 = 2;
+
+    pub fn rapid(x: i32, z: i32) -> Record
+        ensures { λ r. ⌜ r ≡ rapid x z ⌝ }
+    {
+        Record {
+            kind: Record::RAPID,
+            flags: 0,
+            x,
+            z,
+            value: 0,
+        }
+    }
+
+    pub fn feed(x: i32, z: i32, f: u32, g95: bool) -> Record
+        ensures { λ r. ⌜ r ≡ feed x z f g95 ⌝ }
+    {
+        let flags = flag_if(g95, Record::FLAG_G95);
+        Record {
+            kind: Record::FEED,
+            flags,
+            x,
+            z,
+            value: f,
+        }
+    }
+
+    pub fn thread(x: i32, z: i32, pitch: u32) -> Record
+        ensures { λ r. ⌜ r ≡ thread x z pitch ⌝ }
+    {
+        Record {
+            kind: Record::THREAD,
+            flags: 0,
+            x,
+            z,
+            value: pitch,
+        }
+    }
+
+    pub fn dwell(x: i32, z: i32, tenths: u32) -> Record
+        ensures { λ r. ⌜ r ≡ dwell x z tenths ⌝ }
+    {
+        Record {
+            kind: Record::DWELL,
+            flags: 0,
+            x,
+            z,
+            value: tenths,
+        }
+    }
+
+    pub fn tool(x: i32, z: i32, t: u32) -> Record
+        ensures { λ r. ⌜ r ≡ tool x z t ⌝ }
+    {
+        Record {
+            kind: Record::TOOL,
+            flags: 0,
+            x,
+            z,
+            value: t,
+        }
+    }
+
+    pub fn miscellaneous(x: i32, z: i32, m: u32) -> Record
+        ensures { λ r. ⌜ r ≡ miscellaneous x z m ⌝ }
+    {
+        Record {
+            kind: Record::MISCELLANEOUS,
+            flags: 0,
+            x,
+            z,
+            value: m,
+        }
+    }
+
+    pub fn speed(x: i32, z: i32, s: u32, g96: bool) -> Record
+        ensures { λ r. ⌜ r ≡ speed x z s g96 ⌝ }
+    {
+        let flags = flag_if(g96, Record::FLAG_G96);
+        Record {
+            kind: Record::SPEED,
+            flags,
+            x,
+            z,
+            value: s,
+        }
+    }
+}
+
+fn flag_if(on: bool, flag: u8) -> u8
+    ensures { λ r. ⌜ r ≡ cond on flag 0 ⌝ }
+{
+    if on { flag } else { 0 }
+}
