@@ -1,3 +1,4 @@
+-- `moves::list::put_header` meets its contract.
 use borrow.Author.Needs.{needs}
 use mathlib.Core.Path.{_≡_, _∙_}
 use mathlib.Core.List.{[], _∷_}
@@ -6,48 +7,34 @@ use Rattle.whole.specs.Bytes.{littleEndian, laid}
 use Rattle.moves.proofs.Writing.{header-laid}
 use Rattle.moves.proofs.list.put_header.Statement.{statement}
 use Rattle.moves.proofs.list.put_header.Tie as tie
-use Rattle.moves.proofs.list.put_header.Reads as reads
-use Rattle.moves.proofs.list.put_header.Lts as lts
-use Rattle.whole.proofs.bytes.bytes_of_u16.Reads as bytes-of-u16-reads
-use Rattle.whole.proofs.bytes.put_four.Reads as put-four-reads
 
--- src/list.rt:54:19
 bytes-of-u16-requires : tie.Need-bytes-of-u16-requires
 bytes-of-u16-requires c κs = search needs
 
--- src/list.rt:55:19
 bytes-of-u16-requires-2 : tie.Need-bytes-of-u16-requires-2
 bytes-of-u16-requires-2 c κs = search needs
 
--- src/list.rt:56:55
 array-read-t11 : tie.Need-array-read-t11
 array-read-t11 c = search needs
 
--- src/list.rt:56:5
 put-four-requires : tie.Need-put-four-requires
 put-four-requires c κs = search needs
 
--- src/list.rt:57:37
 array-read-t11-2 : tie.Need-array-read-t11-2
 array-read-t11-2 c = search needs
 
--- src/list.rt:57:49
 array-read-t19 : tie.Need-array-read-t19
 array-read-t19 c = search needs
 
--- src/list.rt:57:61
 array-read-t22 : tie.Need-array-read-t22
 array-read-t22 c = search needs
 
--- src/list.rt:57:5
 put-four-requires-2 : tie.Need-put-four-requires-2
 put-four-requires-2 c κs = search needs
 
--- src/list.rt:50:1
 same-length : tie.Need-same-length
 same-length c = search needs
 
--- src/list.rt:50:1
 returns : tie.Need-returns
 returns c =
     let p2 = c .before .before in

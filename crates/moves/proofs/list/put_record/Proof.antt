@@ -1,3 +1,4 @@
+-- `moves::list::put_record` meets its contract.
 use borrow.Author.Needs.{needs}
 use mathlib.Core.Path.{_≡_, _∙_}
 use mathlib.Core.List.{[], _∷_}
@@ -7,45 +8,31 @@ use Rattle.moves.proofs.Writing.{record-laid}
 use Rattle.whole.specs.Bytes.{littleEndian, signedBytes, laid}
 use Rattle.moves.proofs.list.put_record.Statement.{statement}
 use Rattle.moves.proofs.list.put_record.Tie as tie
-use Rattle.moves.proofs.list.put_record.Reads as reads
-use Rattle.moves.proofs.list.put_record.Lts as lts
-use Rattle.whole.proofs.bytes.bytes_of_i32.Reads as bytes-of-i32-reads
-use Rattle.whole.proofs.bytes.bytes_of_u32.Reads as bytes-of-u32-reads
-use Rattle.whole.proofs.bytes.put_four.Reads as put-four-reads
 
--- src/list.rt:31:9
 bytes-of-i32-requires : tie.Need-bytes-of-i32-requires
 bytes-of-i32-requires c κs = search needs
 
--- src/list.rt:32:9
 bytes-of-i32-requires-2 : tie.Need-bytes-of-i32-requires-2
 bytes-of-i32-requires-2 c κs = search needs
 
--- src/list.rt:33:9
 bytes-of-u32-requires : tie.Need-bytes-of-u32-requires
 bytes-of-u32-requires c κs = search needs
 
--- src/list.rt:34:5
 put-four-requires : tie.Need-put-four-requires
 put-four-requires c κs = search needs
 
--- src/list.rt:35:5
 put-four-requires-2 : tie.Need-put-four-requires-2
 put-four-requires-2 c κs = search needs
 
--- src/list.rt:36:5
 put-four-requires-3 : tie.Need-put-four-requires-3
 put-four-requires-3 c κs = search needs
 
--- src/list.rt:37:5
 put-four-requires-4 : tie.Need-put-four-requires-4
 put-four-requires-4 c κs = search needs
 
--- src/list.rt:27:1
 same-length : tie.Need-same-length
 same-length c = search needs
 
--- src/list.rt:27:1
 -- X and Z as the machine reads them back from their bits
 same-x : (c : tie.After-struct-told) → toZ w32 (ofZ w32 (c .before .before .args .what .x)) ≡ c .before .before .args .what .x
 same-x c = search needs

@@ -1,3 +1,4 @@
+-- `moves::list::write_record` meets its contract.
 use borrow.Author.Needs.{needs}
 use mathlib.Core.Path.{_≡_, _∙_}
 use Prim.Native.Nat.{_+_, _*_}
@@ -5,39 +6,28 @@ use Rattle.whole.proofs.Laying.{lent}
 use Rattle.moves.specs.Form.{recordBytes}
 use Rattle.moves.proofs.list.write_record.Statement.{statement}
 use Rattle.moves.proofs.list.write_record.Tie as tie
-use Rattle.moves.proofs.list.write_record.Reads as reads
-use Rattle.moves.proofs.list.write_record.Lts as lts
-use Rattle.moves.proofs.list.put_record.Reads as put-record-reads
 
--- src/list.rt:45:38
 mul-first : tie.Need-mul-first
 mul-first c = search needs
 
--- src/list.rt:45:17
 add-first : tie.Need-add-first
 add-first c = search needs
 
--- src/list.rt:46:16
 sub-put-record : tie.Need-sub-put-record
 sub-put-record c = search needs
 
--- src/list.rt:46:16
 part-put-record-start : tie.Need-part-put-record-start
 part-put-record-start c = search needs
 
--- src/list.rt:46:16
 part-put-record-end : tie.Need-part-put-record-end
 part-put-record-end c = search needs
 
--- src/list.rt:46:5
 put-record-requires : tie.Need-put-record-requires
 put-record-requires c κs = search needs
 
--- src/list.rt:41:1
 same-length : tie.Need-same-length
 same-length c = search needs
 
--- src/list.rt:41:1
 returns : tie.Need-returns
 returns c =
     let s = c .before .before .before .before .before in

@@ -1,23 +1,17 @@
+-- `whole::bytes::i32_of_bytes` meets its contract.
 use borrow.Author.Needs.{needs, sfits-of}
 use mathlib.Core.Path.{ap, _∙_}
 use mir.Facts.{toZ-ofZ}
 use Rattle.whole.specs.Bytes.{signedOf}
 use Rattle.whole.proofs.bytes.i32_of_bytes.Statement.{statement}
 use Rattle.whole.proofs.bytes.i32_of_bytes.Tie as tie
-use Rattle.whole.proofs.bytes.i32_of_bytes.Reads as reads
-use Rattle.whole.proofs.bytes.i32_of_bytes.Lts as lts
-use Rattle.whole.proofs.bytes.signed_of.Reads as signed-of-reads
-use Rattle.whole.proofs.bytes.u32_of_bytes.Reads as u32-of-bytes-reads
 
--- src/bytes.rt:86:15
 u32-of-bytes-requires : tie.Need-u32-of-bytes-requires
 u32-of-bytes-requires c κs = search needs
 
--- src/bytes.rt:86:5
 signed-of-requires : tie.Need-signed-of-requires
 signed-of-requires c κs = search needs
 
--- src/bytes.rt:83:1
 returns : tie.Need-returns
 returns c = toZ-ofZ (sfits-of (c .signed-of .ok)) ∙ c .signed-of .ensures ∙ ap signedOf (c .before .u32-of-bytes .ensures)
 

@@ -1,61 +1,47 @@
+-- `whole::bytes::put_four` meets its contract.
 use borrow.Author.Needs.{needs}
 use native.Mathlib.Omega.{arith}
 use lib.ListN.{length-set}
 use Rattle.whole.proofs.Laying.{four-laid}
 use Rattle.whole.proofs.bytes.put_four.Statement.{statement}
 use Rattle.whole.proofs.bytes.put_four.Tie as tie
-use Rattle.whole.proofs.bytes.put_four.Reads as reads
-use Rattle.whole.proofs.bytes.put_four.Lts as lts
 
--- src/bytes.rt:79:15
 array-read-buf : tie.Need-array-read-buf
 array-read-buf c = search needs
 
--- src/bytes.rt:79:5
 slice-write-buf : tie.Need-slice-write-buf
 slice-write-buf c = search needs
 
--- src/bytes.rt:80:19
 array-read-buf-2 : tie.Need-array-read-buf-2
 array-read-buf-2 c = search needs
 
--- src/bytes.rt:80:9
 add-buf : tie.Need-add-buf
 add-buf c = search needs
 
--- src/bytes.rt:80:5
 slice-write-buf-2 : tie.Need-slice-write-buf-2
 slice-write-buf-2 c = simp length-set (omega arith)
 
--- src/bytes.rt:81:19
 array-read-buf-3 : tie.Need-array-read-buf-3
 array-read-buf-3 c = search needs
 
--- src/bytes.rt:81:9
 add-buf-2 : tie.Need-add-buf-2
 add-buf-2 c = search needs
 
--- src/bytes.rt:81:5
 slice-write-buf-3 : tie.Need-slice-write-buf-3
 slice-write-buf-3 c = simp length-set (omega arith)
 
--- src/bytes.rt:82:19
 array-read-buf-4 : tie.Need-array-read-buf-4
 array-read-buf-4 c = search needs
 
--- src/bytes.rt:82:9
 add-buf-3 : tie.Need-add-buf-3
 add-buf-3 c = search needs
 
--- src/bytes.rt:82:5
 slice-write-buf-4 : tie.Need-slice-write-buf-4
 slice-write-buf-4 c = simp length-set (omega arith)
 
--- src/bytes.rt:75:1
 same-length : tie.Need-same-length
 same-length c = search needs
 
--- src/bytes.rt:75:1
 returns : tie.Need-returns
 returns c = four-laid (c .args .buf .now) (c .args .at) (c .args .t3) (search needs) (search needs)
 

@@ -1,3 +1,4 @@
+-- `whole::bytes::signed_of` meets its contract.
 use mathlib.Core.Path.{_≡_, _∙_}
 use native.Mathlib.Omega.{arith}
 use Prim.Native.Nat.{_^_}
@@ -11,8 +12,6 @@ use Rattle.whole.specs.Bytes.{signedOf}
 use borrow.Author.Needs.{needs}
 use Rattle.whole.proofs.bytes.signed_of.Statement.{statement}
 use Rattle.whole.proofs.bytes.signed_of.Tie as tie
-use Rattle.whole.proofs.bytes.signed_of.Reads as reads
-use Rattle.whole.proofs.bytes.signed_of.Lts as lts
 
 record Fit (c : tie.Else1) : Type 0 where
   u : toZ w64 (c .before .args .u) ≡ pos (c .before .args .u)
@@ -22,28 +21,22 @@ record Fit (c : tie.Else1) : Type 0 where
 fit : (c : tie.Else1) → Fit c
 fit c = let d = sub-in (pos (c .before .args .u)) (pos 4294967296) in record { u = toZ-pos w64 (omega arith); wide = omega whole; dif = fits (omega whole) }
 
--- src/lib.rt:186:9
 cast-result : tie.Need-cast-result
 cast-result c = search needs
 
--- src/lib.rt:188:11
 cast-result-2 : tie.Need-cast-result-2
 cast-result-2 c = search needs
 
--- src/lib.rt:188:10
 sub-result : tie.Need-sub-result
 sub-result c = let f = fit c in search (needs, f .u)
 
--- src/lib.rt:188:9
 cast-result-3 : tie.Need-cast-result-3
 cast-result-3 c = let f = fit c in search (needs, f .u)
 
--- src/lib.rt:182:1
 returns : tie.Need-returns
 unfolding signedOf
 returns c = simp (lt-ltb (c .before .args .u) (2 ^ 31) (c .if1 .taken))
 
--- src/lib.rt:182:1
 returns-2 : tie.Need-returns-2
 unfolding signedOf
 returns-2 c = let f = fit c in simp (le-ltb (c .before .args .u) (2 ^ 31) (c .if1 .left), f .u, toZ-ofZ (f .wide), toZ-ofZ (f .dif))

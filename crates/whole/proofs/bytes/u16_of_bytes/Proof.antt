@@ -1,37 +1,28 @@
+-- `whole::bytes::u16_of_bytes` meets its contract.
 use borrow.Author.Needs.{needs}
 use native.Mathlib.Omega.{arith}
 use Rattle.whole.proofs.LittleEndian.{two-value}
 use Rattle.whole.proofs.bytes.u16_of_bytes.Statement.{statement}
 use Rattle.whole.proofs.bytes.u16_of_bytes.Tie as tie
-use Rattle.whole.proofs.bytes.u16_of_bytes.Reads as reads
-use Rattle.whole.proofs.bytes.u16_of_bytes.Lts as lts
-use Rattle.whole.proofs.bytes.wide16.Reads as wide16-reads
 
--- src/bytes.rt:52:12
 array-read-wide16 : tie.Need-array-read-wide16
 array-read-wide16 c = search needs
 
--- src/bytes.rt:52:5
 wide16-requires : tie.Need-wide16-requires
 wide16-requires c κs = search needs
 
--- src/bytes.rt:52:33
 array-read-wide16-2 : tie.Need-array-read-wide16-2
 array-read-wide16-2 c = search needs
 
--- src/bytes.rt:52:26
 wide16-requires-2 : tie.Need-wide16-requires-2
 wide16-requires-2 c κs = search needs
 
--- src/bytes.rt:52:20
 mul-result : tie.Need-mul-result
 mul-result c = omega arith
 
--- src/bytes.rt:52:5
 add-result : tie.Need-add-result
 add-result c = omega arith
 
--- src/bytes.rt:49:1
 returns : tie.Need-returns
 returns c = let s = c .before .before in omega (arith, two-value (s .args .t1) (search needs))
 

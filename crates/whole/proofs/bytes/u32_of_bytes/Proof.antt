@@ -1,69 +1,52 @@
+-- `whole::bytes::u32_of_bytes` meets its contract.
 use borrow.Author.Needs.{needs}
 use native.Mathlib.Omega.{arith}
 use Rattle.whole.proofs.LittleEndian.{four-value}
 use Rattle.whole.proofs.bytes.u32_of_bytes.Statement.{statement}
 use Rattle.whole.proofs.bytes.u32_of_bytes.Tie as tie
-use Rattle.whole.proofs.bytes.u32_of_bytes.Reads as reads
-use Rattle.whole.proofs.bytes.u32_of_bytes.Lts as lts
-use Rattle.whole.proofs.bytes.wide32.Reads as wide32-reads
 
--- src/bytes.rt:58:24
 array-read-wide32 : tie.Need-array-read-wide32
 array-read-wide32 c = search needs
 
--- src/bytes.rt:58:17
 wide32-requires : tie.Need-wide32-requires
 wide32-requires c κs = search needs
 
--- src/bytes.rt:58:45
 array-read-wide32-2 : tie.Need-array-read-wide32-2
 array-read-wide32-2 c = search needs
 
--- src/bytes.rt:58:38
 wide32-requires-2 : tie.Need-wide32-requires-2
 wide32-requires-2 c κs = search needs
 
--- src/bytes.rt:58:32
 mul-third : tie.Need-mul-third
 mul-third c = omega arith
 
--- src/bytes.rt:58:17
 add-third : tie.Need-add-third
 add-third c = omega arith
 
--- src/bytes.rt:59:25
 array-read-wide32-3 : tie.Need-array-read-wide32-3
 array-read-wide32-3 c = search needs
 
--- src/bytes.rt:59:18
 wide32-requires-3 : tie.Need-wide32-requires-3
 wide32-requires-3 c κs = search needs
 
--- src/bytes.rt:59:33
 mul-second : tie.Need-mul-second
 mul-second c = omega arith
 
--- src/bytes.rt:59:18
 add-second : tie.Need-add-second
 add-second c = omega arith
 
--- src/bytes.rt:60:12
 array-read-wide32-4 : tie.Need-array-read-wide32-4
 array-read-wide32-4 c = search needs
 
--- src/bytes.rt:60:5
 wide32-requires-4 : tie.Need-wide32-requires-4
 wide32-requires-4 c κs = search needs
 
--- src/bytes.rt:60:20
 mul-result : tie.Need-mul-result
 mul-result c = omega arith
 
--- src/bytes.rt:60:5
 add-result : tie.Need-add-result
 add-result c = omega arith
 
--- src/bytes.rt:55:1
 returns : tie.Need-returns
 returns c = let s = c .before .before .before .before in omega (arith, four-value (s .args .t1) (search needs))
 

@@ -1,3 +1,4 @@
+-- `whole::division::line_after` meets its contract.
 use borrow.Author.Needs.{needs}
 use native.Mathlib.Omega.{arith}
 use native.Mathlib.Nat.{div-add-mod, mul-le-mul-right}
@@ -6,8 +7,6 @@ use mathlib.Core.Path.{_≡_}
 use Rattle.whole.proofs.Divisions.{line-is}
 use Rattle.whole.proofs.division.line_after.Statement.{statement}
 use Rattle.whole.proofs.division.line_after.Tie as tie
-use Rattle.whole.proofs.division.line_after.Reads as reads
-use Rattle.whole.proofs.division.line_after.Lts as lts
 
 -- k quotients and the remainder are no more than the length
 way : (c : tie.Start) → c .args .k * (c .args .length / c .args .n) + c .args .length % c .args .n ≤ c .args .length
@@ -18,27 +17,21 @@ way c =
 div-quotient : tie.Need-div-quotient
 div-quotient c = search needs
 
--- src/division.rt:32:18
 rem-longer : tie.Need-rem-longer
 rem-longer c = search needs
 
--- src/division.rt:33:16
 mul-base : tie.Need-mul-base
 mul-base c = omega (arith, way c)
 
--- src/division.rt:34:21
 add-result : tie.Need-add-result
 add-result c = omega (arith, way (c .before))
 
--- src/division.rt:34:39
 add-result-2 : tie.Need-add-result-2
 add-result-2 c = omega (arith, way (c .before))
 
--- src/division.rt:27:1
 returns : tie.Need-returns
 returns c = let a = c .before .args in omega (arith, line-is (a .length) (a .n) (a .k) (search needs) (search needs))
 
--- src/division.rt:27:1
 returns-2 : tie.Need-returns-2
 returns-2 c = let a = c .before .args in omega (arith, line-is (a .length) (a .n) (a .k) (search needs) (search needs))
 

@@ -1,3 +1,4 @@
+-- `whole::division::piece` meets its contract.
 use borrow.Author.Needs.{needs}
 use native.Mathlib.Omega.{arith}
 use native.Mathlib.Nat.{div-add-mod, mul-le-mul-right}
@@ -6,29 +7,22 @@ use mathlib.Core.Path.{sym}
 use Rattle.whole.proofs.Divisions.{piece-first, piece-later}
 use Rattle.whole.proofs.division.piece.Statement.{statement}
 use Rattle.whole.proofs.division.piece.Tie as tie
-use Rattle.whole.proofs.division.piece.Reads as reads
-use Rattle.whole.proofs.division.piece.Lts as lts
 
--- src/division.rt:22:20
 div-quotient : tie.Need-div-quotient
 div-quotient c = search needs
 
--- src/division.rt:23:12
 rem-longer : tie.Need-rem-longer
 rem-longer c = search needs
 
--- src/division.rt:23:25
 add-result : tie.Need-add-result
 add-result c =
     let s = c .before in
     let p : 0 < s .args .n = omega arith in
     omega (arith, div-add-mod (s .args .length) (s .args .n), mul-le-mul-right (s .args .length / s .args .n) p)
 
--- src/division.rt:18:1
 returns : tie.Need-returns
 returns c = let s = c .before in sym (piece-first (s .args .length) (s .args .n) (s .args .k) (c .if1 .taken))
 
--- src/division.rt:18:1
 returns-2 : tie.Need-returns-2
 returns-2 c = let s = c .before in sym (piece-later (s .args .length) (s .args .n) (s .args .k) (c .if1 .left) (s .pre))
 

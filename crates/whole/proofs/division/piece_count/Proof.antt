@@ -1,3 +1,4 @@
+-- `whole::division::piece_count` meets its contract.
 use borrow.Author.Needs.{needs}
 use native.Mathlib.Omega.{arith}
 use native.Mathlib.Nat.{div-le-self}
@@ -6,22 +7,16 @@ use mathlib.Core.Path.{sym}
 use Rattle.whole.proofs.Divisions.{count-is}
 use Rattle.whole.proofs.division.piece_count.Statement.{statement}
 use Rattle.whole.proofs.division.piece_count.Tie as tie
-use Rattle.whole.proofs.division.piece_count.Reads as reads
-use Rattle.whole.proofs.division.piece_count.Lts as lts
 
--- src/division.rt:14:6
 sub-result : tie.Need-sub-result
 sub-result c = search needs
 
--- src/division.rt:14:5
 div-result : tie.Need-div-result
 div-result c = search needs
 
--- src/division.rt:14:5
 add-result : tie.Need-add-result
 add-result c = omega (arith, div-le-self (c .args .length - 1) (c .args .greatest))
 
--- src/division.rt:9:1
 returns : tie.Need-returns
 returns c = sym (count-is (c .args .length) (c .args .greatest) (search needs) (search needs))
 

@@ -1,3 +1,4 @@
+-- `whole::signed::step` meets its contract.
 use borrow.Author.Needs.{needs, sfits-of}
 use mathlib.Core.Path.{_≡_, sym, ap, _∙_, subst}
 use lib.IntN.{ℤ, _+ℤ_}

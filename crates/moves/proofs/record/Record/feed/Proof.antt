@@ -1,17 +1,13 @@
+-- `moves::record::Record::feed` meets its contract.
 use borrow.Author.Needs.{needs}
 use mir.Facts.{toZ-ofZ}
 use Rattle.moves.specs.Kinds.{flagged}
 use Rattle.moves.proofs.record.Record.feed.Statement.{statement}
 use Rattle.moves.proofs.record.Record.feed.Tie as tie
-use Rattle.moves.proofs.record.Record.feed.Reads as reads
-use Rattle.moves.proofs.record.Record.feed.Lts as lts
-use Rattle.moves.proofs.record.flag_if.Reads as flag-if-reads
 
--- src/record.rt:51:13
 flag-if-requires : tie.Need-flag-if-requires
 flag-if-requires c κs = search needs
 
--- src/record.rt:48:5
 returns : tie.Need-returns
 returns c =
     let s = c .before in

@@ -1,17 +1,13 @@
+-- `moves::record::Record::speed` meets its contract.
 use borrow.Author.Needs.{needs}
 use mir.Facts.{toZ-ofZ}
 use Rattle.moves.specs.Kinds.{flagged}
 use Rattle.moves.proofs.record.Record.speed.Statement.{statement}
 use Rattle.moves.proofs.record.Record.speed.Tie as tie
-use Rattle.moves.proofs.record.Record.speed.Reads as reads
-use Rattle.moves.proofs.record.Record.speed.Lts as lts
-use Rattle.moves.proofs.record.flag_if.Reads as flag-if-reads
 
--- src/record.rt:112:13
 flag-if-requires : tie.Need-flag-if-requires
 flag-if-requires c κs = search needs
 
--- src/record.rt:109:5
 returns : tie.Need-returns
 returns c =
     let s = c .before in

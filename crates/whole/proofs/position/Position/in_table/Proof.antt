@@ -1,12 +1,10 @@
+-- `whole::position::Position::in_table` meets its contract.
 use mathlib.Core.Path.{ap}
 use mir.Facts.{toZ-ofZ}
 use Rattle.whole.specs.Position.{inTable}
 use Rattle.whole.proofs.position.Position.in_table.Statement.{statement}
 use Rattle.whole.proofs.position.Position.in_table.Tie as tie
-use Rattle.whole.proofs.position.Position.in_table.Reads as reads
-use Rattle.whole.proofs.position.Position.in_table.Lts as lts
 
--- src/position.rt:28:5
 returns : tie.Need-returns
 unfolding inTable
 returns c = ap inTable (toZ-ofZ (c .fits .v))

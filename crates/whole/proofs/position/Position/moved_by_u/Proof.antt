@@ -1,3 +1,4 @@
+-- `whole::position::Position::moved_by_u` meets its contract.
 use borrow.Author.Needs.{needs, sfits-of}
 use mathlib.Core.Path.{_≡_, ap, _∙_}
 use lib.IntN.{ℤ, pos, _+ℤ_, _*ℤ_}
@@ -8,9 +9,6 @@ use Rattle.whole.proofs.Held.{held, is, num, sum, prod, cast}
 use Rattle.whole.specs.Position.{placed}
 use Rattle.whole.proofs.position.Position.moved_by_u.Statement.{statement}
 use Rattle.whole.proofs.position.Position.moved_by_u.Tie as tie
-use Rattle.whole.proofs.position.Position.place.Reads as place-reads
-use Rattle.whole.proofs.position.Position.moved_by_u.Reads as reads
-use Rattle.whole.proofs.position.Position.moved_by_u.Lts as lts
 
 -- what the locals hold fits an `i64`
 record Fit (a u : ℤ) : Type 0 where

@@ -1,3 +1,4 @@
+-- `whole::position::Position::moved_by_w` meets its contract.
 use borrow.Author.Needs.{needs, sfits-of}
 use mathlib.Core.Path.{_∙_}
 use lib.IntN.{_+ℤ_}
@@ -6,15 +7,10 @@ use mir.Facts.{toZ-ofZ}
 use Rattle.whole.specs.Position.{placed}
 use Rattle.whole.proofs.position.Position.moved_by_w.Statement.{statement}
 use Rattle.whole.proofs.position.Position.moved_by_w.Tie as tie
-use Rattle.whole.proofs.position.Position.moved_by_w.Reads as reads
-use Rattle.whole.proofs.position.Position.moved_by_w.Lts as lts
-use Rattle.whole.proofs.position.Position.from_word.Reads as from-word-reads
 
--- src/position.rt:59:9
 from-word-requires : tie.Need-from-word-requires
 from-word-requires c κs = search needs
 
--- src/position.rt:55:5
 returns : tie.Need-returns
 returns c =
     let s = c .before .before in

@@ -1,3 +1,4 @@
+-- `whole::position::Position::place` meets its contract.
 use borrow.Author.Needs.{needs}
 use mathlib.Core.Path.{_≡_}
 use mathlib.Core.Bool.{true, false}
@@ -9,8 +10,6 @@ use Rattle.whole.specs.Position.{placed, targetLeast, targetGreatest}
 use Rattle.whole.proofs.Integers.{whole}
 use Rattle.whole.proofs.position.Position.place.Statement.{statement}
 use Rattle.whole.proofs.position.Position.place.Tie as tie
-use Rattle.whole.proofs.position.Position.place.Reads as reads
-use Rattle.whole.proofs.position.Position.place.Lts as lts
 
 -- what the tests tell of v itself, which the machine reads back from its bits
 low : (c : tie.Else2) → ltZ (c .before .before .args .v) targetLeast ≡ false
@@ -25,16 +24,13 @@ fit c = let l = low c in let h = high c in omega whole
 cast-if1 : tie.Need-cast-if1
 cast-if1 c = search needs
 
--- src/position.rt:32:13
 returns : tie.Need-returns
 unfolding placed
 returns c = let e : ltZ (c .before .args .v) targetLeast ≡ true = cc (toZ-ofZ (c .before .fits .v)) in simp e
 
--- src/position.rt:34:13
 cast-if2 : tie.Need-cast-if2
 cast-if2 c = search needs
 
--- src/position.rt:35:13
 returns-2 : tie.Need-returns-2
 unfolding placed
 returns-2 c =
@@ -43,11 +39,9 @@ returns-2 c =
     let h : ltZ targetGreatest v ≡ true = cc (toZ-ofZ (c .before .before .fits .v)) in
     simp (l, h)
 
--- src/position.rt:37:35
 cast-t4 : tie.Need-cast-t4
 cast-t4 c = let f = fit c in search needs
 
--- src/position.rt:28:5
 returns-3 : tie.Need-returns-3
 unfolding placed
 returns-3 c = simp (low c, high c, toZ-ofZ (c .before .before .fits .v), toZ-ofZ (fit c))
