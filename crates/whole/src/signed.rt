@@ -23,6 +23,13 @@ pub fn distance(a: i32, b: i32) -> u32
     }
 }
 
+// How far a number is from zero.
+pub fn magnitude(v: i32) -> u32
+    ensures { λ r. ⌜ r ≡ natAbs v ⌝ }
+{
+    distance(v, 0)
+}
+
 // On which side of `from` the number `to` lies.
 pub fn side_of(from: i32, to: i32) -> Side
     ensures { λ r. ⌜ r ≡ sideOf (to -ℤ from) ⌝ }

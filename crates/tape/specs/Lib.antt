@@ -1,0 +1,5 @@
+-- The definitions that the contracts of this crate cite, and those of the crates above it.
+pub mod Letters
+pub mod Lines
+pub mod Numbers
+pub mod Words
