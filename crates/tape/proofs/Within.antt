@@ -1,21 +1,31 @@
--- The bounds of a number that was read, by its kind.
+-- The bounds of what was read: of a number by its kind, and of a word by its address.
 -- Assumes nothing.
 use mathlib.Core.Path.{_≡_, refl, sym, subst}
-use mathlib.Core.Bool.{Bool, true, false, cond, _&&_}
+use mathlib.Core.Bool.{Bool, true, false, cond, _&&_, _||_}
 use mathlib.Core.List.{List, [], _∷_}
 use Prim.Native.Nat.{ℕ, zero, suc, _+_, _*_, _-_, _^_, _<_, _≤_}
 use native.Mathlib.Omega.{arith}
 use borrow.Author.Tests.{leb-true}
 use lib.Dec.{T, leb, ltb, eqb}
 use lib.IntN.{ℤ, pos}
-use lib.ListN.{length, drop}
+use lib.ListN.{length, getD, take, drop}
 use Rattle.whole.proofs.Integers.{whole, up-neg, down-neg}
 use Rattle.whole.proofs.Positions.{InTable}
 use Rattle.tape.specs.declared.number.Digits.{Digits}
+use Rattle.tape.specs.declared.line.Gap.{Gap}
+use Rattle.tape.specs.declared.line.Gap.the-variants as gap
+use Rattle.tape.specs.declared.number.Kind.{Kind}
 use Rattle.tape.specs.declared.number.Kind.the-variants.{Path, TwoDigits, FourDigits, FiveDigits, DNumber}
 use Rattle.tape.specs.declared.number.Number.{Number}
 use Rattle.tape.specs.declared.number.Number.the-variants.{Value, Bad}
-use Rattle.tape.specs.Letters.{plus, minus, point}
+use Rattle.tape.specs.declared.word.Address.{Address}
+use Rattle.tape.specs.declared.word.Address.the-variants.{Known, Unknown}
+use Rattle.tape.specs.declared.word.Next.{Next}
+use Rattle.tape.specs.declared.word.Next.the-variants.{Word, End, Fault}
+use Rattle.tape.specs.declared.word.Word as w
+use Rattle.tape.specs.Letters.{plus, minus, point, equals, letterD, letterP}
+use Rattle.tape.specs.Lines.{seekFrom, gapOf}
+use Rattle.tape.specs.Words.{capital, endsNumber, kindOf, wordBy, numberWord, indexedWord, addressed, wordAt, behindGap, nextWord}
 use Rattle.tape.specs.Numbers.{isDigit, digitsOf, signedOf, millimetres, behindDigits, unsignedPath, pathOf, allDigits, digitsIn, numberOf}
 use Rattle.tape.proofs.Digits.{behind-point, ten-more, ten-up}
 
@@ -100,24 +110,68 @@ path-in (b ∷ s) =
     cond-ind (Read InTable) (eqb b minus) _ _ (λ t. unsigned-in true s)
     (cond-ind (Read InTable) (eqb b plus) _ _ (λ t. unsigned-in false s) (unsigned-in false (b ∷ s)))
 
--- ---- by the kinds
-module _ (s : List ℕ) (z : ℤ) (p : Bool) where
-  pub path-within : numberOf Path s ≡ Value z p → InTable z
-  unfolding numberOf
-  path-within e = subst (Read InTable) e (path-in s)
+-- ---- of words: the number is within what its address takes, and the index is a digit
+abbrev pub WithinKind : Kind → ℤ → Type 0
+WithinKind Path z = InTable z
+WithinKind TwoDigits z = Below 100 z
+WithinKind FourDigits z = Below 10_000 z
+WithinKind FiveDigits z = Below 100_000 z
+WithinKind DNumber z = Below 32_768 z
 
-  pub two-within : numberOf TwoDigits s ≡ Value z p → Below 100 z
-  unfolding numberOf
-  two-within e = subst (Read (Below 100)) e (digits-below 2 99 s)
+number-read : (k : Kind) (s : List ℕ) → Read (WithinKind k) (numberOf k s)
+unfolding numberOf
+number-read Path s = path-in s
+number-read TwoDigits s = digits-below 2 99 s
+number-read FourDigits s = digits-below 4 9_999 s
+number-read FiveDigits s = digits-below 5 99_999 s
+number-read DNumber s = digits-below 5 32_767 s
 
-  pub four-within : numberOf FourDigits s ≡ Value z p → Below 10_000 z
-  unfolding numberOf
-  four-within e = subst (Read (Below 10_000)) e (digits-below 4 9_999 s)
+abbrev pub Within : Address → ℤ → Type 0
+Within (Known k) z = WithinKind k z
+Within Unknown z = Unit {0}
 
-  pub five-within : numberOf FiveDigits s ≡ Value z p → Below 100_000 z
-  unfolding numberOf
-  five-within e = subst (Read (Below 100_000)) e (digits-below 5 99_999 s)
+pub record WordIn (x : w.Word) : Type 0 where
+  pub number : Within (kindOf (x .address)) (x .value)
+  pub index : x .index < 10
 
-  pub d-within : numberOf DNumber s ≡ Value z p → Below 32_768 z
-  unfolding numberOf
-  d-within e = subst (Read (Below 32_768)) e (digits-below 5 32_767 s)
+abbrev pub NextWord : Next → Type 0
+NextWord (Word w end) = WordIn w
+NextWord End = Unit {0}
+NextWord Fault = Unit {0}
+
+by-number : (a i : ℕ) (k : Kind) (n : Number) (end : ℕ) → kindOf a ≡ Known k → i < 10 → Read (WithinKind k) n → NextWord (wordBy a i n end)
+by-number a i k (Value v p) end e h r = record { number = subst (λ (t : Address). Within t v) (sym e) r; index = h }
+by-number a i k Bad end e h r = tt
+
+number-word : (s : List ℕ) (a i : ℕ) (k : Kind) (from end : ℕ) → kindOf a ≡ Known k → i < 10 → NextWord (numberWord s a i k from end)
+unfolding numberWord
+number-word s a i k from end e h = by-number a i k (numberOf k (take (end - from) (drop from s))) end e h (number-read k (take (end - from) (drop from s)))
+
+digit-index : (b : ℕ) (t : Bool) → (isDigit b && t) ≡ true → b - 48 < 10
+digit-index b t e = go (leb 48 b) (leb b 57) t refl refl e
+  where
+    go : (x y z : Bool) → leb 48 b ≡ x → leb b 57 ≡ y → (x && y && z) ≡ true → b - 48 < 10
+    go true true z p q e = omega (arith, leb-true b 57 q)
+    go true false z p q e = absurd (subst T (sym e) tt)
+    go false y z p q e = absurd (subst T (sym e) tt)
+
+indexed-word : (s : List ℕ) (a : ℕ) (k : Kind) (from end : ℕ) → kindOf a ≡ Known k → NextWord (indexedWord s a k from end)
+unfolding indexedWord
+indexed-word s a k from end e =
+    cond-ind NextWord (ltb (end - from) 2) Fault _ (λ _. tt)
+    (cond-ind NextWord (isDigit (getD s from 0) && eqb (getD s (from + 1) 0) equals) _ Fault
+    (λ d. number-word s a (getD s from 0 - 48) k (from + 2) end e (digit-index (getD s from 0) (eqb (getD s (from + 1) 0) equals) d)) tt)
+
+by-address : (s : List ℕ) (a : ℕ) (t : Address) (from end : ℕ) → kindOf a ≡ t → NextWord (addressed s a t from end)
+by-address s a Unknown from end e = tt
+by-address s a (Known k) from end e =
+    cond-ind NextWord (eqb a letterP || eqb a letterD) _ _ (λ _. indexed-word s a k from end e) (number-word s a 0 k from end e (omega arith))
+
+behind : (s : List ℕ) (g : Gap) → NextWord (behindGap g (λ p. cond (ltb p (length s)) (wordAt s p) End))
+unfolding wordAt
+behind s gap.Fault = tt
+behind s (gap.At p) = cond-ind NextWord (ltb p (length s)) _ End (λ _. by-address s (capital (getD s p 0)) (kindOf (capital (getD s p 0))) (p + 1) (seekFrom endsNumber s (p + 1)) refl) tt
+
+pub word-within : (s : List ℕ) (i : ℕ) → NextWord (nextWord s i)
+unfolding nextWord
+word-within s i = behind s (gapOf false i (drop i s))

@@ -1,0 +1,2 @@
+-- The definitions that name the alarms.
+pub mod Numbers

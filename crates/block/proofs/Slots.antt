@@ -1,0 +1,24 @@
+-- Laws of slots and heads: an address that has none of its own.
+-- Assumes nothing.
+use mathlib.Core.Path.{_≡_, refl}
+use Prim.Native.Nat.{ℕ}
+use borrow.Author.Tests.{ne-eqb}
+use Rattle.tape.specs.Letters.{percent, letterD, letterF, letterG, letterL, letterM, letterN, letterO, letterP, letterS, letterT, letterU, letterW, letterX, letterZ}
+use Rattle.tape.specs.declared.word.Word.{Word}
+use Rattle.block.specs.declared.words.Slot.the-variants.{Unknown}
+use Rattle.block.specs.declared.words.Head.the-variants.{Other}
+use Rattle.block.specs.Words.{slotOf, isForeign, headBy}
+
+module _ (w : Word) where
+  unfoldable pub Not : ℕ → Type 0
+  Not n = w .address ≡ n → ⊥
+
+  pub slot-none : Not letterX → Not letterZ → Not letterU → Not letterW → Not letterF → Not letterS → Not letterT → Not letterL → Not letterP → Not letterD
+      → Not letterG → Not letterM → Not letterN → slotOf w ≡ Unknown
+  unfolding Not slotOf
+  slot-none x z u v f s t l p d g m n =
+      rw (ne-eqb _ _ x, ne-eqb _ _ z, ne-eqb _ _ u, ne-eqb _ _ v, ne-eqb _ _ f, ne-eqb _ _ s, ne-eqb _ _ t, ne-eqb _ _ l, ne-eqb _ _ p, ne-eqb _ _ d, ne-eqb _ _ g, ne-eqb _ _ m, ne-eqb _ _ n)
+
+  pub head-other : Not percent → Not letterO → Not letterN → headBy w ≡ Other
+  unfolding Not headBy isForeign
+  head-other p o n = rw (ne-eqb _ _ p, ne-eqb _ _ o, ne-eqb _ _ n)

@@ -1,0 +1,61 @@
+use mathlib.Core.Path.{_≡_, sym, ap, _∙_}
+use mathlib.Core.Bool.{Bool, true, false, cond}
+use mathlib.Core.List.{List}
+use Prim.Native.Nat.{ℕ, _≤_}
+use lib.ListN.{length}
+use borrow.Author.Tests.{lt-ltb, le-ltb}
+use Rattle.alarms.specs.Numbers.{badByteOrNumber}
+use Rattle.block.specs.declared.words.Reading.{Reading}
+use Rattle.block.specs.declared.rules.Judged.{Judged}
+use Rattle.block.specs.Words.{lineOf}
+use Rattle.block.specs.Rules.{brokenBy, refusedLine, judgedBy, judged}
+use borrow.Author.Needs.{needs}
+use Rattle.block.proofs.rules.judge_line.Statement.{statement}
+use Rattle.block.proofs.rules.judge_line.Tie as tie
+use Rattle.block.proofs.rules.judge_line.Reads as reads
+use Rattle.block.proofs.rules.judge_line.Lts as lts
+use Rattle.block.proofs.rules.breaks_behind.Reads as breaks-behind-reads
+use Rattle.block.proofs.words.read_line.Reads as read-line-reads
+
+-- a line that is not too long, and one of its two ways
+judged-short : (s : List ℕ) → length s ≤ 160 → judged s ≡ judgedBy (lineOf s)
+unfolding judged
+judged-short s h = rw (le-ltb 160 (length s) h)
+
+judged-faulty : (r : Reading) → r .faulty ≡ true → judgedBy r ≡ refusedLine badByteOrNumber
+judged-faulty r e = rw e
+
+judged-good : (r : Reading) → r .faulty ≡ false → judgedBy r ≡ record { alarm = 0; head = r .head; broken = brokenBy (r .head) (r .block); ends = r .block .ends }
+judged-good r e = rw e
+
+-- src/rules.rt:163:9
+returns : tie.Need-returns
+unfolding judged
+returns c = rw (lt-ltb _ _ (c .if1 .taken))
+
+-- src/rules.rt:170:9
+read-line-requires : tie.Need-read-line-requires
+read-line-requires c κs = search needs
+
+-- src/rules.rt:172:9
+returns-2 : tie.Need-returns-2
+returns-2 c =
+    let r = c .before in
+    let s = r .before .before .before .args .line .now in
+    sym (judged-short s (r .before .if1 .left) ∙ judged-faulty (lineOf s) (ap (λ (x : Reading). x .faulty) (sym (r .read-line .ensures)) ∙ c .if2 .taken))
+
+-- src/rules.rt:184:17
+breaks-behind-requires : tie.Need-breaks-behind-requires
+breaks-behind-requires c κs = search needs
+
+-- src/rules.rt:159:1
+returns-3 : tie.Need-returns-3
+returns-3 c =
+    let r = c .before .before .before in
+    let s = r .before .before .before .args .line .now in
+    (λ i. record { alarm = 0; head = r .read-line .ensures i .head; broken = (c .breaks-behind .ensures ∙ (λ j. brokenBy (r .read-line .ensures j .head) (r .read-line .ensures j .block))) i; ends = r .read-line .ensures i .block .ends })
+    ∙ sym (judged-short s (r .before .if1 .left) ∙ judged-good (lineOf s) (ap (λ (x : Reading). x .faulty) (sym (r .read-line .ensures)) ∙ c .before .before .if2 .left))
+
+pub judge-line-spec : {M : Type 1} → statement M
+judge-line-spec =
+    tie.close (tie.spec returns read-line-requires returns-2 breaks-behind-requires returns-3)

@@ -1,0 +1,101 @@
+use borrow.Author.Needs.{needs}
+use mathlib.Core.Path.{_≡_, sym, ap, _∙_, subst}
+use mathlib.Core.Bool.{true, false}
+use mathlib.Core.List.{List}
+use Prim.Native.Nat.{ℕ}
+use lib.ListN.{length}
+use Rattle.tape.specs.declared.word.Next.{Next}
+use Rattle.tape.specs.Words.{nextWord, NextIn}
+use Rattle.block.specs.declared.words.Head.the-variants.{Blank}
+use Rattle.block.specs.Words.{faultyRest, gather, reading, lineBy, lineOf}
+use borrow.Author.Needs.{needs}
+use Rattle.block.proofs.words.read_line.Statement.{statement}
+use Rattle.block.proofs.words.read_line.Tie as tie
+use Rattle.block.proofs.words.read_line.Reads as reads
+use Rattle.block.proofs.words.read_line.Lts as lts
+use Rattle.block.proofs.words.head_by.Reads as head-by-reads
+use Rattle.block.proofs.words.no_words.Reads as no-words-reads
+use Rattle.block.proofs.words.read_rest.Reads as read-rest-reads
+use Rattle.tape.proofs.word.next_word.Reads as next-word-reads
+
+-- a line whose first word is known
+line-by : (s : List ℕ) {n : Next} → nextWord s 0 ≡ n → lineBy s n ≡ lineOf s
+unfolding lineOf
+line-by s e = ap (lineBy s) (sym e)
+
+-- src/words.rt:257:9
+next-word-requires : tie.Need-next-word-requires
+next-word-requires c κs = search needs
+
+-- src/words.rt:260:19
+enum-told : tie.Need-enum-told
+enum-told c = search needs
+
+-- src/words.rt:261:20
+no-words-requires : tie.Need-no-words-requires
+no-words-requires c κs = search needs
+
+-- src/words.rt:265:19
+enum-told-2 : tie.Need-enum-told-2
+enum-told-2 c = search needs
+
+-- src/words.rt:266:20
+no-words-requires-2 : tie.Need-no-words-requires-2
+no-words-requires-2 c κs = search needs
+
+-- src/words.rt:269:20
+enum-known-next : tie.Need-enum-known-next
+enum-known-next c = search needs
+
+-- src/words.rt:270:17
+read-rest-requires : tie.Need-read-rest-requires
+read-rest-requires c κs =
+    let x = c .before in
+    let n = x .before .before in
+    let s = n .before .before in
+    (subst (λ (t : Next). NextIn t 0 (length (s .args .line .now))) (x .next .given .1) (n .next-word .ensures .1) .1, s .pre)
+
+-- src/words.rt:273:23
+head-by-requires : tie.Need-head-by-requires
+head-by-requires c κs = search needs
+
+-- src/words.rt:253:1
+returns : tie.Need-returns
+unfolding faultyRest
+returns c =
+    let n = c .before .before .before in
+    (λ i. reading Blank (record { block = c .no-words .ensures i; faulty = true }))
+    ∙ line-by (n .before .before .args .line .now) (sym (n .next-word .ensures .0) ∙ c .before .enum-told .given .1)
+
+-- src/words.rt:253:1
+returns-2 : tie.Need-returns-2
+unfolding gather
+returns-2 c =
+    let n = c .before .before .before in
+    (λ i. reading Blank (record { block = c .no-words2 .ensures i; faulty = false }))
+    ∙ line-by (n .before .before .args .line .now) (sym (n .next-word .ensures .0) ∙ c .before .enum-told2 .given .1)
+
+-- src/words.rt:253:1
+returns-3 : tie.Need-returns-3
+returns-3 c =
+    let r = c .before .before in
+    let x = r .before .before in
+    let n = x .before .before in
+    (λ i. reading (c .head-by .ensures i) (r .read-rest .ensures i))
+    ∙ line-by (n .before .before .args .line .now) (sym (n .next-word .ensures .0) ∙ x .next .given .1)
+
+pub read-line-spec : {M : Type 1} → statement M
+read-line-spec =
+    tie.close
+    (tie.spec
+    next-word-requires
+    enum-told
+    no-words-requires
+    enum-told-2
+    no-words-requires-2
+    enum-known-next
+    read-rest-requires
+    head-by-requires
+    returns
+    returns-2
+    returns-3)

@@ -1,0 +1,67 @@
+-- 01: "G groups (001): 0 is 00 01 33 (kept) and 04 84 86 (that block only; the kept one stays); 1 is 96 97; 2 is 94 95; 3 is 53 54 55; 5 is 56 to 59; 6 is
+-- 25 27; 7 is 71. M groups: 0 is 03 04 05; 3 is 08 09; 2 is 00 17 30." "G54 and G55 call shifts 1 and 2, G57 to G59 shifts 3 to 5 (001); G53 and G56 cancel."
+use mathlib.Core.Bool.{Bool, cond, _&&_}
+use mathlib.Core.List.{List, [], _∷_}
+use Prim.Native.Nat.{ℕ, _-_}
+use lib.Dec.{leb}
+use Rattle.block.specs.declared.codes.Code.{Code}
+use Rattle.block.specs.declared.codes.Code.the-variants.{Of, Unknown}
+use Rattle.block.specs.declared.codes.Meaning.{Meaning}
+use Rattle.block.specs.declared.codes.Meaning.the-variants as means
+
+-- the numbers from low to high are of a group, with a meaning
+pub record Row : Type 0 where
+  pub low : ℕ
+  pub high : ℕ
+  pub group : ℕ
+  pub meaning : ℕ → Meaning
+
+abbrev pub one : ℕ → ℕ → Meaning → Row
+one n g m = record { low = n; high = n; group = g; meaning = λ _. m }
+
+abbrev pub range : ℕ → ℕ → ℕ → (ℕ → Meaning) → Row
+range l h g m = record { low = l; high = h; group = g; meaning = m }
+
+-- the first row that holds a number
+abbrev pub look : List Row → ℕ → Code
+look [] n = Unknown
+look (r ∷ rs) n = cond (leb (r .low) n && leb n (r .high)) (Of (r .group) (r .meaning n)) (look rs n)
+
+abbrev pub gRows : List Row
+gRows =
+    one 0 0 means.Rapid
+    ∷ one 1 0 means.Straight
+    ∷ one 33 0 means.Thread
+    ∷ one 4 0 means.Dwell
+    ∷ one 84 0 means.Turning
+    ∷ one 86 0 means.Grooving
+    ∷ one 96 1 means.CuttingSpeed
+    ∷ one 97 1 means.SpindleSpeed
+    ∷ one 94 2 means.FeedByMinute
+    ∷ one 95 2 means.FeedByRevolution
+    ∷ range 53 55 3 (λ n. means.Shift (n - 53))
+    ∷ one 56 5 (means.Shift 0)
+    ∷ range 57 59 5 (λ n. means.Shift (n - 54))
+    ∷ one 25 6 means.Call
+    ∷ one 27 6 means.Jump
+    ∷ one 71 7 means.Metric
+    ∷ []
+
+abbrev pub mRows : List Row
+mRows =
+    one 3 0 means.SpindleRight
+    ∷ one 4 0 means.SpindleLeft
+    ∷ one 5 0 means.SpindleOff
+    ∷ one 8 3 means.CoolantOn
+    ∷ one 9 3 means.CoolantOff
+    ∷ one 0 2 means.Stop
+    ∷ one 17 2 means.Return
+    ∷ one 30 2 means.End
+    ∷ []
+
+-- the group and the meaning of a G number and of an M number
+unfoldable pub gCode : ℕ → Code
+gCode n = look gRows n
+
+unfoldable pub mCode : ℕ → Code
+mCode n = look mRows n

@@ -1,0 +1,126 @@
+-- 01: "A program line is `%` or `O` and 1 to 4 digits .. A block line starts with `N` and 1 to 4 digits." "Within a block, the last word of an address (for P
+-- and D, of an address and index) is the one that applies, and for G and M the last word of its group (001)." "Reading ends after a line whose last word is M30".
+use mathlib.Core.Bool.{Bool, true, false, cond, _&&_, _||_}
+use mathlib.Core.List.{List}
+use Prim.Native.Nat.{ℕ, _+_, _<_}
+use lib.Dec.{eqb}
+use lib.IntN.{ℤ, pos, natAbs}
+use lib.ListN.{set, replicate}
+use Rattle.tape.specs.Letters.{percent, letterD, letterF, letterG, letterL, letterM, letterN, letterO, letterP, letterS, letterT, letterU, letterW, letterX, letterZ}
+use Rattle.tape.specs.Words.{Words, word, ended, faulty, nextWord, wordsFrom}
+use Rattle.tape.specs.declared.word.Word.{Word}
+use Rattle.tape.specs.declared.word.Next.{Next}
+use Rattle.tape.specs.declared.word.Next.the-variants as next
+use Rattle.block.specs.declared.codes.Code.{Code}
+use Rattle.block.specs.declared.codes.Code.the-variants as code
+use Rattle.block.specs.declared.words.Block.{Block}
+use Rattle.block.specs.declared.words.Slot.{Slot}
+use Rattle.block.specs.declared.words.Slot.the-variants.{At, Late, Unknown}
+use Rattle.block.specs.declared.words.Head.{Head}
+use Rattle.block.specs.declared.words.Head.the-variants.{Blank, Program, Numbered, Other}
+use Rattle.block.specs.declared.words.Rest.{Rest}
+use Rattle.block.specs.declared.words.Reading.{Reading}
+use Rattle.block.specs.Codes.{gCode, mCode}
+
+-- the slots: X Z U W F S T at 0 to 6, the groups of M from 7 on, P0 to P9 from 11 on, D0 to D9 from 21 on, L at 31, the groups of G from 32 on
+abbrev pub mFirst : ℕ
+mFirst = 7
+
+abbrev pub pFirst : ℕ
+pFirst = 11
+
+abbrev pub dFirst : ℕ
+dFirst = 21
+
+abbrev pub lSlot : ℕ
+lSlot = 31
+
+abbrev pub gFirst : ℕ
+gFirst = 32
+
+abbrev pub codeSlot : Code → ℕ → Slot
+codeSlot (code.Of g m) first = At (first + g)
+codeSlot code.Unknown first = Unknown
+
+-- the number of a G or M word, of a program and of a block has no sign
+abbrev pub numberIn : Word → ℕ
+numberIn w = natAbs (w .value)
+
+-- where a word goes: N behind the first word is late, and a number of G or M may be unknown
+unfoldable pub slotOf : Word → Slot
+slotOf w =
+    let a = w .address in
+    cond (eqb a letterX) (At 0)
+    (cond (eqb a letterZ) (At 1)
+    (cond (eqb a letterU) (At 2)
+    (cond (eqb a letterW) (At 3)
+    (cond (eqb a letterF) (At 4)
+    (cond (eqb a letterS) (At 5)
+    (cond (eqb a letterT) (At 6)
+    (cond (eqb a letterL) (At lSlot)
+    (cond (eqb a letterP) (At (pFirst + w .index))
+    (cond (eqb a letterD) (At (dFirst + w .index))
+    (cond (eqb a letterG) (codeSlot (gCode (numberIn w)) gFirst)
+    (cond (eqb a letterM) (codeSlot (mCode (numberIn w)) mFirst)
+    (cond (eqb a letterN) Late Unknown))))))))))))
+
+abbrev pub SlotIn : Slot → Type 0
+SlotIn (At k) = k < 40
+SlotIn Late = Unit {0}
+SlotIn Unknown = Unit {0}
+
+-- the block with no words
+unfoldable pub noWords : Block
+noWords = record { value = replicate 40 (pos 0); place = replicate 40 0; words = 0; late = false; unknown = false; ends = false }
+
+-- "a line whose last word is M30"
+unfoldable pub isEnd : Word → Bool
+isEnd w = eqb (w .address) letterM && eqb (numberIn w) 30
+
+-- a block with one word more: "the last word .. is the one that applies"
+abbrev pub putIn : Slot → Block → Word → Block
+putIn (At k) b w =
+    record { value = set (b .value) k (w .value); place = set (b .place) k (b .words + 1); words = b .words + 1; late = b .late; unknown = b .unknown; ends = isEnd w }
+putIn Late b w = record { value = b .value; place = b .place; words = b .words + 1; late = true; unknown = b .unknown; ends = isEnd w }
+putIn Unknown b w = record { value = b .value; place = b .place; words = b .words + 1; late = b .late; unknown = true; ends = isEnd w }
+
+unfoldable pub putWord : Block → Word → Block
+putWord b w = putIn (slotOf w) b w
+
+-- `%` and `O` are no known addresses behind the first word
+unfoldable pub isForeign : ℕ → Bool
+isForeign a = eqb a percent || eqb a letterO
+
+-- what is left of a line with a fault
+unfoldable pub faultyRest : Rest
+faultyRest = record { block = noWords; faulty = true }
+
+-- the words behind the first, one after the other into the block
+unfoldable pub gather : Block → Words → Rest
+gather b ended = record { block = b; faulty = false }
+gather b faulty = faultyRest
+gather b (word w ws) = cond (isForeign (w .address)) faultyRest (gather (putWord b w) ws)
+
+-- how a line begins, by its first word
+unfoldable pub headBy : Word → Head
+headBy w = cond (isForeign (w .address)) (Program (numberIn w)) (cond (eqb (w .address) letterN) (Numbered (numberIn w)) Other)
+
+abbrev pub headOfNext : Next → Head
+headOfNext next.Fault = Blank
+headOfNext next.End = Blank
+headOfNext (next.Word w end) = headBy w
+
+unfoldable pub headOf : List ℕ → Head
+headOf s = headOfNext (nextWord s 0)
+
+-- a whole line
+abbrev pub reading : Head → Rest → Reading
+reading h r = record { head = h; block = r .block; faulty = r .faulty }
+
+abbrev pub lineBy : List ℕ → Next → Reading
+lineBy s next.Fault = reading Blank faultyRest
+lineBy s next.End = reading Blank (gather noWords ended)
+lineBy s (next.Word w end) = reading (headBy w) (gather noWords (wordsFrom s end))
+
+unfoldable pub lineOf : List ℕ → Reading
+lineOf s = lineBy s (nextWord s 0)

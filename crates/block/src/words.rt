@@ -1,0 +1,279 @@
+// The words of a line as a block: an array of the applying words and one of their places, with a slot for each address and index.
+// (01: "Within a block, the last word of an address (for P and D, of an address and index) is the one that applies, and for G and M the last word of its group".)
+use crate::codes::Code;
+use tape::word::Next;
+use tape::word::Word;
+ghost use mathlib.Core.Path.{_≡_};
+ghost use Prim.Native.Nat.{_+_, _≤_, _<_};
+ghost use lib.ListN.{length};
+ghost use Rattle.tape.specs.Words.{wordsFrom};
+ghost use Rattle.block.specs.Codes.{gCode, mCode};
+ghost use Rattle.block.specs.Words.{gFirst, mFirst, SlotIn, codeSlot, slotOf, noWords, isEnd, putWord, isForeign, faultyRest, gather, headBy, headOf, lineOf};
+
+// The slots: X Z U W F S T, the groups of M, P and D by their indexes, L, and the groups of G.
+pub const SLOTS: usize = 40;
+
+pub const X: usize = 0;
+
+pub const Z: usize = 1;
+
+pub const U: usize = 2;
+
+pub const W: usize = 3;
+
+pub const F: usize = 4;
+
+pub const S: usize = 5;
+
+pub const T: usize = 6;
+
+pub const M: usize = 7;
+
+pub const P: usize = 11;
+
+pub const D: usize = 21;
+
+pub const L: usize = 31;
+
+pub const G: usize = 32;
+
+// What a block holds behind its number. A slot's place is the number of its applying word, counted from 1, and 0 where it has none.
+pub struct Block {
+    pub value: [i32; 40],
+    pub place: [u8; 40],
+    // how many words there are
+    pub words: u8,
+    // an N word stands among them
+    pub late: bool,
+    // a G or M number stands among them that is none of the paper's
+    pub unknown: bool,
+    // the last of them is M30
+    pub ends: bool,
+}
+
+// How a line begins.
+pub enum Head {
+    Blank,
+    Program(u32),
+    Numbered(u32),
+    Other,
+}
+
+// A line as it is read: how it begins, the words behind that, and whether it has a fault (alarm 5).
+pub struct Reading {
+    pub head: Head,
+    pub block: Block,
+    pub faulty: bool,
+}
+
+pub struct Rest {
+    pub block: Block,
+    pub faulty: bool,
+}
+
+// Where a word goes.
+pub enum Slot {
+    At(usize),
+    Late,
+    Unknown,
+}
+
+fn wide(b: u8) -> usize
+    ensures { λ r. ⌜ r ≡ b ⌝ }
+{
+    b as usize
+}
+
+// The slot of a G word and of an M word: that of its group.
+fn g_slot(n: u32) -> Slot
+    ensures { λ r. ⌜ (r ≡ codeSlot (gCode n) gFirst) × SlotIn r ⌝ }
+{
+    let code = crate::codes::g_code(n);
+    match code {
+        Code::Of(group, _) => Slot::At(G + group),
+        Code::Unknown => Slot::Unknown,
+    }
+}
+
+fn m_slot(n: u32) -> Slot
+    ensures { λ r. ⌜ (r ≡ codeSlot (mCode n) mFirst) × SlotIn r ⌝ }
+{
+    let code = crate::codes::m_code(n);
+    match code {
+        Code::Of(group, _) => Slot::At(M + group),
+        Code::Unknown => Slot::Unknown,
+    }
+}
+
+// Where a word goes. Every word that is read has an index of one digit.
+fn slot_of(w: Word) -> Slot
+    requires { ⌜ w .index < 10 ⌝ }
+    ensures { λ r. ⌜ (r ≡ slotOf w) × SlotIn r ⌝ }
+{
+    let address = w.address;
+    let index = wide(w.index);
+    match address {
+        b'X' => Slot::At(X),
+        b'Z' => Slot::At(Z),
+        b'U' => Slot::At(U),
+        b'W' => Slot::At(W),
+        b'F' => Slot::At(F),
+        b'S' => Slot::At(S),
+        b'T' => Slot::At(T),
+        b'L' => Slot::At(L),
+        b'P' => Slot::At(P + index),
+        b'D' => Slot::At(D + index),
+        b'G' => g_slot(whole::signed::magnitude(w.value)),
+        b'M' => m_slot(whole::signed::magnitude(w.value)),
+        b'N' => Slot::Late,
+        _ => Slot::Unknown,
+    }
+}
+
+pub fn no_words() -> Block
+    ensures { λ r. ⌜ r ≡ noWords ⌝ }
+{
+    Block {
+        value: [0i32; 40],
+        place: [0u8; 40],
+        words: 0,
+        late: false,
+        unknown: false,
+        ends: false,
+    }
+}
+
+// Whether a word is M30.
+fn is_end(w: Word) -> bool
+    ensures { λ r. ⌜ r ≡ isEnd w ⌝ }
+{
+    (w.address == b'M') & (whole::signed::magnitude(w.value) == 30)
+}
+
+// The block with one word more: the last word of a slot is the one that applies.
+fn put_word(b: Block, w: Word) -> Block
+    requires { ⌜ (b .words < 255) × (w .index < 10) ⌝ }
+    ensures { λ r. ⌜ r ≡ putWord b w ⌝ }
+{
+    let slot = slot_of(w);
+    let value = w.value;
+    let ends = is_end(w);
+    let mut b = b;
+    let n = b.words + 1;
+    b.words = n;
+    b.ends = ends;
+    match slot {
+        Slot::At(k) => {
+            b.value[k] = value;
+            b.place[k] = n;
+            b
+        }
+        Slot::Late => {
+            b.late = true;
+            b
+        }
+        Slot::Unknown => {
+            b.unknown = true;
+            b
+        }
+    }
+}
+
+// `%` and `O` begin a line or are no addresses.
+fn is_foreign(address: u8) -> bool
+    ensures { λ r. ⌜ r ≡ isForeign address ⌝ }
+{
+    (address == b'%') | (address == b'O')
+}
+
+fn faulty_rest() -> Rest
+    ensures { λ r. ⌜ r ≡ faultyRest ⌝ }
+{
+    Rest {
+        block: no_words(),
+        faulty: true,
+    }
+}
+
+// The words of a line from `from` on, in one block. A line of at most 160 bytes has no more words than a byte can count.
+fn read_rest(line: &[u8], from: usize) -> Rest
+    requires { ⌜ (from ≤ length (now line)) × (length (now line) ≤ 160) ⌝ }
+    ensures { λ r. ⌜ r ≡ gather noWords (wordsFrom (now (line .entry)) from) ⌝ }
+{
+    let mut b = no_words();
+    let mut i = from;
+    loop {
+        let next = tape::word::next_word(line, i);
+        match next {
+            Next::Fault => {
+                return faulty_rest();
+            }
+            Next::End => {
+                return Rest {
+                    block: b,
+                    faulty: false,
+                };
+            }
+            Next::Word(w, end) => {
+                if is_foreign(w.address) {
+                    return faulty_rest();
+                }
+                b = put_word(b, w);
+                i = end;
+            }
+        }
+    }
+}
+
+fn head_by(w: Word) -> Head
+    ensures { λ r. ⌜ r ≡ headBy w ⌝ }
+{
+    let address = w.address;
+    let number = whole::signed::magnitude(w.value);
+    match address {
+        b'%' | b'O' => Head::Program(number),
+        b'N' => Head::Numbered(number),
+        _ => Head::Other,
+    }
+}
+
+// How a line begins, by its first word alone.
+pub fn head_of(line: &[u8]) -> Head
+    ensures { λ r. ⌜ r ≡ headOf (now (line .entry)) ⌝ }
+{
+    let next = tape::word::next_word(line, 0);
+    match next {
+        Next::Fault => Head::Blank,
+        Next::End => Head::Blank,
+        Next::Word(w, _) => head_by(w),
+    }
+}
+
+// A whole line.
+pub fn read_line(line: &[u8]) -> Reading
+    requires { ⌜ length (now line) ≤ 160 ⌝ }
+    ensures { λ r. ⌜ r ≡ lineOf (now (line .entry)) ⌝ }
+{
+    let next = tape::word::next_word(line, 0);
+    match next {
+        Next::Fault => Reading {
+            head: Head::Blank,
+            block: no_words(),
+            faulty: true,
+        },
+        Next::End => Reading {
+            head: Head::Blank,
+            block: no_words(),
+            faulty: false,
+        },
+        Next::Word(w, end) => {
+            let rest = read_rest(line, end);
+            let block = rest.block;
+            Reading {
+                head: head_by(w),
+                block,
+                faulty: rest.faulty,
+            }
+        }
+    }
+}
