@@ -15,7 +15,7 @@ use Rattle.block.specs.declared.words.Block.{Block}
 use Rattle.block.specs.declared.words.Slot.{Slot}
 use Rattle.block.specs.declared.words.Slot.the-variants.{At, Late, Unknown}
 use Rattle.block.specs.declared.words.Rest.{Rest}
-use Rattle.block.specs.Words.{slotOf, noWords, putIn, putWord, isForeign, faultyRest, gather}
+use Rattle.block.specs.Words.{slotOf, noWords, putIn, putWord, isProgramAddress, faultyRest, gather}
 
 -- no words are no more than any number
 pub none : {n : ℕ} → noWords .words ≤ n
@@ -45,11 +45,11 @@ module _ (s : List ℕ) (i : ℕ) (h : i ≤ length s) (b : Block) where
   unfolding gather
   rest-end e = from-next e
 
-  pub rest-foreign : {w : Word} {end : ℕ} → nextWord s i ≡ next.Word w end → isForeign (w .address) ≡ true → gather b (wordsFrom s i) ≡ faultyRest
+  pub rest-foreign : {w : Word} {end : ℕ} → nextWord s i ≡ next.Word w end → isProgramAddress (w .address) ≡ true → gather b (wordsFrom s i) ≡ faultyRest
   unfolding gather
   rest-foreign {w} {end} e f = from-next e ∙ ap (λ (t : Bool). cond t faultyRest (gather (putWord b w) (wordsFrom s end))) f
 
-  pub rest-word : {w : Word} {end : ℕ} → nextWord s i ≡ next.Word w end → isForeign (w .address) ≡ false
+  pub rest-word : {w : Word} {end : ℕ} → nextWord s i ≡ next.Word w end → isProgramAddress (w .address) ≡ false
       → gather b (wordsFrom s i) ≡ gather (putWord b w) (wordsFrom s end)
   unfolding gather
   rest-word {w} {end} e f = from-next e ∙ ap (λ (t : Bool). cond t faultyRest (gather (putWord b w) (wordsFrom s end))) f

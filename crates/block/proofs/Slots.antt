@@ -7,7 +7,7 @@ use Rattle.tape.specs.Letters.{percent, letterD, letterF, letterG, letterL, let
 use Rattle.tape.specs.declared.word.Word.{Word}
 use Rattle.block.specs.declared.words.Slot.the-variants.{Unknown}
 use Rattle.block.specs.declared.words.Head.the-variants.{Other}
-use Rattle.block.specs.Words.{slotOf, isForeign, headBy}
+use Rattle.block.specs.Words.{slotOf, isProgramAddress, headBy}
 
 module _ (w : Word) where
   unfoldable pub Not : ℕ → Type 0
@@ -20,5 +20,5 @@ module _ (w : Word) where
       rw (ne-eqb _ _ x, ne-eqb _ _ z, ne-eqb _ _ u, ne-eqb _ _ v, ne-eqb _ _ f, ne-eqb _ _ s, ne-eqb _ _ t, ne-eqb _ _ l, ne-eqb _ _ p, ne-eqb _ _ d, ne-eqb _ _ g, ne-eqb _ _ m, ne-eqb _ _ n)
 
   pub head-other : Not percent → Not letterO → Not letterN → headBy w ≡ Other
-  unfolding Not headBy isForeign
+  unfolding Not headBy isProgramAddress
   head-other p o n = rw (ne-eqb _ _ p, ne-eqb _ _ o, ne-eqb _ _ n)

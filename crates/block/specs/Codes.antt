@@ -30,7 +30,7 @@ look (r ∷ rs) n = cond (leb (r .low) n && leb n (r .high)) (Of (r .group) (r .
 abbrev pub gRows : List Row
 gRows =
     one 0 0 means.Rapid
-    ∷ one 1 0 means.Straight
+    ∷ one 1 0 means.Feed
     ∷ one 33 0 means.Thread
     ∷ one 4 0 means.Dwell
     ∷ one 84 0 means.Turning

@@ -1,5 +1,5 @@
 -- 01: "Word rules, else alarm 9 (numbers are judged on every word; what a G or M asks or forbids holds only where that word applies)". A definition for each rule;
--- each is true where the rule is broken.
+-- each is true where the rule is broken. All but the first three look at the applying words alone.
 use mathlib.Core.Bool.{Bool, true, false, cond, not, _&&_, _||_}
 use mathlib.Core.List.{List, [], _∷_}
 use Prim.Native.Nat.{ℕ, _+_, _-_}
@@ -9,7 +9,7 @@ use lib.ListN.{length, getD, take, drop}
 use Rattle.alarms.specs.Numbers.{badByteOrNumber, lineTooLong}
 use Rattle.block.specs.declared.words.Block.{Block}
 use Rattle.block.specs.declared.words.Head.{Head}
-use Rattle.block.specs.declared.words.Head.the-variants.{Blank, Program, Numbered, Other}
+use Rattle.block.specs.declared.words.Head.the-variants.{Blank, ProgramLine, BlockLine, Other}
 use Rattle.block.specs.declared.words.Reading.{Reading}
 use Rattle.block.specs.declared.rules.Judged.{Judged}
 use Rattle.block.specs.Words.{pFirst, dFirst, lSlot, gFirst, lineOf}
@@ -28,64 +28,88 @@ unfoldable pub anyFrom : Block → ℕ → ℕ → Bool
 anyFrom b from to = anyPlace (take (to - from) (drop from (b .place)))
 
 -- the G word of group 0 that applies is that of n
-unfoldable pub motionIs : Block → ℕ → Bool
-motionIs b n = has b gFirst && eqb (natAbs (getD (b .value) gFirst (pos 0))) n
+unfoldable pub groupZeroIs : Block → ℕ → Bool
+groupZeroIs b n = has b gFirst && eqb (natAbs (getD (b .value) gFirst (pos 0))) n
 
 -- "a G25 or G27 block": group 6
-unfoldable pub leaves : Block → Bool
-leaves b = has b (gFirst + 6)
+unfoldable pub callsOrJumps : Block → Bool
+callsOrJumps b = has b (gFirst + 6)
+
+-- "only the G and M numbers above"
+unfoldable pub unknownNumber : Block → Bool
+unknownNumber b = b .unknown
+
+-- "N only as first word"
+unfoldable pub lateN : Block → Bool
+lateN b = b .late
+
+-- "nothing after a program number"
+unfoldable pub afterProgram : Block → Bool
+afterProgram b = not (eqb (b .words) 0)
 
 -- "not X with U, nor Z with W"
 unfoldable pub axisTwice : Block → Bool
 axisTwice b = (has b 0 && has b 2) || (has b 1 && has b 3)
 
 -- "a G25 or G27 block .. must have L, and no other block has L"
-unfoldable pub labelWrong : Block → Bool
-labelWrong b = (leaves b && not (has b lSlot)) || (not (leaves b) && has b lSlot)
+unfoldable pub lWordWrong : Block → Bool
+lWordWrong b = (callsOrJumps b && not (has b lSlot)) || (not (callsOrJumps b) && has b lSlot)
 
 -- "a G25 or G27 block holds N, G and L words only": the slots below L's are those of X Z U W F S T M P D
-unfoldable pub moreThanLabel : Block → Bool
-moreThanLabel b = leaves b && anyFrom b 0 lSlot
+unfoldable pub moreThanL : Block → Bool
+moreThanL b = callsOrJumps b && anyFrom b 0 lSlot
 
 -- "no G04 with G25 or G27"
-unfoldable pub dwellWithLeaving : Block → Bool
-dwellWithLeaving b = motionIs b 4 && leaves b
+unfoldable pub dwellWithCall : Block → Bool
+dwellWithCall b = groupZeroIs b 4 && callsOrJumps b
 
 -- "G04 takes no path word"
 unfoldable pub dwellWithPath : Block → Bool
-dwellWithPath b = motionIs b 4 && anyFrom b 0 4
+dwellWithPath b = groupZeroIs b 4 && anyFrom b 0 4
 
--- "D4 stands with G04 (missing: a dwell of 0); D0 D2 D3 with G84; D3 D4 D5 with G86; no other P or D"
-unfoldable pub settingWrong : Block → Bool
-settingWrong b =
-    ((has b dFirst || has b (dFirst + 2)) && not (motionIs b 84))
-    || ((has b (dFirst + 3) && not (motionIs b 84 || motionIs b 86))
-    || ((has b (dFirst + 4) && not (motionIs b 4 || motionIs b 86))
-    || ((has b (dFirst + 5) && not (motionIs b 86)) || ((has b (dFirst + 1) || anyFrom b (dFirst + 6) lSlot) || anyFrom b pFirst dFirst))))
+-- "D4 stands with G04 (missing: a dwell of 0); D0 D2 D3 with G84; D3 D4 D5 with G86; no other P or D": D0 and D2 are the allowances, D3 the division, D4 the
+-- dwell, D5 the tool width
+unfoldable pub allowanceWrong : Block → Bool
+allowanceWrong b = (has b dFirst || has b (dFirst + 2)) && not (groupZeroIs b 84)
+
+unfoldable pub divisionWrong : Block → Bool
+divisionWrong b = has b (dFirst + 3) && not (groupZeroIs b 84 || groupZeroIs b 86)
+
+unfoldable pub dwellWrong : Block → Bool
+dwellWrong b = has b (dFirst + 4) && not (groupZeroIs b 4 || groupZeroIs b 86)
+
+unfoldable pub widthWrong : Block → Bool
+widthWrong b = has b (dFirst + 5) && not (groupZeroIs b 86)
+
+unfoldable pub otherPOrD : Block → Bool
+otherPOrD b = (has b (dFirst + 1) || anyFrom b (dFirst + 6) lSlot) || anyFrom b pFirst dFirst
+
+unfoldable pub dWordWrong : Block → Bool
+dWordWrong b = allowanceWrong b || (divisionWrong b || (dwellWrong b || (widthWrong b || otherPOrD b)))
 
 -- "G84 and G86 need one word of each axis"
 unfoldable pub axisMissing : Block → Bool
-axisMissing b = (motionIs b 84 || motionIs b 86) && not ((has b 0 || has b 2) && (has b 1 || has b 3))
+axisMissing b = (groupZeroIs b 84 || groupZeroIs b 86) && not ((has b 0 || has b 2) && (has b 1 || has b 3))
 
 -- "G86 also D5"
 unfoldable pub widthMissing : Block → Bool
-widthMissing b = motionIs b 86 && not (has b (dFirst + 5))
+widthMissing b = groupZeroIs b 86 && not (has b (dFirst + 5))
 
--- a block breaks a rule; the first two: "only the G and M numbers above", "N only as first word"
+-- a block breaks a rule
 unfoldable pub broken : Block → Bool
 broken b =
-    (b .unknown || b .late)
+    (unknownNumber b || lateN b)
     || (axisTwice b
-    || ((labelWrong b || moreThanLabel b) || ((dwellWithLeaving b || dwellWithPath b) || (settingWrong b || (axisMissing b || widthMissing b)))))
+    || ((lWordWrong b || moreThanL b) || ((dwellWithCall b || dwellWithPath b) || (dWordWrong b || (axisMissing b || widthMissing b)))))
 
--- a line breaks a rule; of a program line: "nothing after a program number"
+-- a line breaks a rule. Of a line that begins with another word it is not asked: that is alarm 6, which goes before
 unfoldable pub brokenBy : Head → Block → Bool
-brokenBy (Program n) b = not (eqb (b .words) 0)
-brokenBy (Numbered n) b = broken b
+brokenBy (ProgramLine n) b = afterProgram b
+brokenBy (BlockLine n) b = broken b
 brokenBy Blank b = false
 brokenBy Other b = false
 
--- what a line shows by itself: alarm 7 above 160 bytes, then 5, else how it begins and whether it breaks a rule
+-- a line with alarm 7 or 5: the other fields say nothing
 abbrev pub refusedLine : ℕ → Judged
 refusedLine n = record { alarm = n; head = Blank; broken = false; ends = false }
 
@@ -93,5 +117,7 @@ abbrev pub judgedBy : Reading → Judged
 judgedBy r =
     cond (r .faulty) (refusedLine badByteOrNumber) (record { alarm = 0; head = r .head; broken = brokenBy (r .head) (r .block); ends = r .block .ends })
 
+-- what the text of a line, its end not counted, shows by itself: alarm 7 above 160 bytes, then 5, else how it begins, whether it breaks a rule, and
+-- whether its last word is M30
 unfoldable pub judged : List ℕ → Judged
 judged s = cond (ltb 160 (length s)) (refusedLine lineTooLong) (judgedBy (lineOf s))

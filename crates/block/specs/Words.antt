@@ -1,4 +1,5 @@
--- 01: "A program line is `%` or `O` and 1 to 4 digits .. A block line starts with `N` and 1 to 4 digits." "Within a block, the last word of an address (for P
+-- 01: "A program line is `%` or `O` and 1 to 4 digits, 0 to 6999, nothing more. A block line starts with `N` and 1 to 4 digits." (That a program number is at most
+-- 6999 is judged where the tape is read.) "Within a block, the last word of an address (for P
 -- and D, of an address and index) is the one that applies, and for G and M the last word of its group (001)." "Reading ends after a line whose last word is M30".
 use mathlib.Core.Bool.{Bool, true, false, cond, _&&_, _||_}
 use mathlib.Core.List.{List}
@@ -17,7 +18,7 @@ use Rattle.block.specs.declared.words.Block.{Block}
 use Rattle.block.specs.declared.words.Slot.{Slot}
 use Rattle.block.specs.declared.words.Slot.the-variants.{At, Late, Unknown}
 use Rattle.block.specs.declared.words.Head.{Head}
-use Rattle.block.specs.declared.words.Head.the-variants.{Blank, Program, Numbered, Other}
+use Rattle.block.specs.declared.words.Head.the-variants.{Blank, ProgramLine, BlockLine, Other}
 use Rattle.block.specs.declared.words.Rest.{Rest}
 use Rattle.block.specs.declared.words.Reading.{Reading}
 use Rattle.block.specs.Codes.{gCode, mCode}
@@ -46,7 +47,7 @@ codeSlot code.Unknown first = Unknown
 abbrev pub numberIn : Word → ℕ
 numberIn w = natAbs (w .value)
 
--- where a word goes: N behind the first word is late, and a number of G or M may be unknown
+-- where a word goes: N behind the first word is late, and a number of G or M may be unknown. No other address comes here
 unfoldable pub slotOf : Word → Slot
 slotOf w =
     let a = w .address in
@@ -73,7 +74,7 @@ SlotIn Unknown = Unit {0}
 unfoldable pub noWords : Block
 noWords = record { value = replicate 40 (pos 0); place = replicate 40 0; words = 0; late = false; unknown = false; ends = false }
 
--- "a line whose last word is M30"
+-- the word M30
 unfoldable pub isEnd : Word → Bool
 isEnd w = eqb (w .address) letterM && eqb (numberIn w) 30
 
@@ -87,9 +88,9 @@ putIn Unknown b w = record { value = b .value; place = b .place; words = b .word
 unfoldable pub putWord : Block → Word → Block
 putWord b w = putIn (slotOf w) b w
 
--- `%` and `O` are no known addresses behind the first word
-unfoldable pub isForeign : ℕ → Bool
-isForeign a = eqb a percent || eqb a letterO
+-- the address of a program number: `%` or `O`. Behind another word they are no known addresses (`gather`)
+unfoldable pub isProgramAddress : ℕ → Bool
+isProgramAddress a = eqb a percent || eqb a letterO
 
 -- what is left of a line with a fault
 unfoldable pub faultyRest : Rest
@@ -99,11 +100,11 @@ faultyRest = record { block = noWords; faulty = true }
 unfoldable pub gather : Block → Words → Rest
 gather b ended = record { block = b; faulty = false }
 gather b faulty = faultyRest
-gather b (word w ws) = cond (isForeign (w .address)) faultyRest (gather (putWord b w) ws)
+gather b (word w ws) = cond (isProgramAddress (w .address)) faultyRest (gather (putWord b w) ws)
 
 -- how a line begins, by its first word
 unfoldable pub headBy : Word → Head
-headBy w = cond (isForeign (w .address)) (Program (numberIn w)) (cond (eqb (w .address) letterN) (Numbered (numberIn w)) Other)
+headBy w = cond (isProgramAddress (w .address)) (ProgramLine (numberIn w)) (cond (eqb (w .address) letterN) (BlockLine (numberIn w)) Other)
 
 abbrev pub headOfNext : Next → Head
 headOfNext next.Fault = Blank

@@ -5,7 +5,7 @@ ghost use Rattle.block.specs.Codes.{gCode, mCode};
 
 pub enum Meaning {
     Rapid,
-    Straight,
+    Feed,
     Thread,
     Dwell,
     Turning,
@@ -40,7 +40,7 @@ pub fn g_code(n: u32) -> Code
 {
     match n {
         0 => Code::Of(0, Meaning::Rapid),
-        1 => Code::Of(0, Meaning::Straight),
+        1 => Code::Of(0, Meaning::Feed),
         33 => Code::Of(0, Meaning::Thread),
         4 => Code::Of(0, Meaning::Dwell),
         84 => Code::Of(0, Meaning::Turning),

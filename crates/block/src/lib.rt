@@ -1,5 +1,5 @@
-// Words as blocks: what G and M numbers mean, which word of a line applies, how a line begins, and the word rules.
-// (01: "Known addresses" to "Word rules", and the G and M groups.)
+// Words as blocks: what G and M numbers mean, how a line begins, which of its words apply, and the word rules.
+// A line is judged here by itself (alarms 7, 5 and 9); what it is among others is judged where the tape is read.
 pub mod codes;
 pub mod rules;
 pub mod words;

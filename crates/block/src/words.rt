@@ -1,4 +1,4 @@
-// The words of a line as a block: an array of the applying words and one of their places, with a slot for each address and index.
+// The words of a line as a block: an array of the applying words and one of their places, with a slot for each address and index, and for each group of G and M.
 // (01: "Within a block, the last word of an address (for P and D, of an address and index) is the one that applies, and for G and M the last word of its group".)
 use crate::codes::Code;
 use tape::word::Next;
@@ -8,11 +8,9 @@ ghost use Prim.Native.Nat.{_+_, _≤_, _<_};
 ghost use lib.ListN.{length};
 ghost use Rattle.tape.specs.Words.{wordsFrom};
 ghost use Rattle.block.specs.Codes.{gCode, mCode};
-ghost use Rattle.block.specs.Words.{gFirst, mFirst, SlotIn, codeSlot, slotOf, noWords, isEnd, putWord, isForeign, faultyRest, gather, headBy, headOf, lineOf};
+ghost use Rattle.block.specs.Words.{gFirst, mFirst, SlotIn, codeSlot, slotOf, noWords, isEnd, putWord, isProgramAddress, faultyRest, gather, headBy, headOf, lineOf};
 
-// The slots: X Z U W F S T, the groups of M, P and D by their indexes, L, and the groups of G.
-pub const SLOTS: usize = 40;
-
+// The first slot of each address: X Z U W F S T, the groups of M, P and D by their indexes, L, and the groups of G. There are 40.
 pub const X: usize = 0;
 
 pub const Z: usize = 1;
@@ -37,7 +35,8 @@ pub const L: usize = 31;
 
 pub const G: usize = 32;
 
-// What a block holds behind its number. A slot's place is the number of its applying word, counted from 1, and 0 where it has none.
+// What a block holds behind its number. The place of a slot is where its applying word stands among
+// these words, counted from 1, and 0 where no word applies.
 pub struct Block {
     pub value: [i32; 40],
     pub place: [u8; 40],
@@ -54,8 +53,8 @@ pub struct Block {
 // How a line begins.
 pub enum Head {
     Blank,
-    Program(u32),
-    Numbered(u32),
+    ProgramLine(u32),
+    BlockLine(u32),
     Other,
 }
 
@@ -179,9 +178,9 @@ fn put_word(b: Block, w: Word) -> Block
     }
 }
 
-// `%` and `O` begin a line or are no addresses.
-fn is_foreign(address: u8) -> bool
-    ensures { λ r. ⌜ r ≡ isForeign address ⌝ }
+// Whether an address is that of a program number.
+fn is_program_address(address: u8) -> bool
+    ensures { λ r. ⌜ r ≡ isProgramAddress address ⌝ }
 {
     (address == b'%') | (address == b'O')
 }
@@ -215,7 +214,7 @@ fn read_rest(line: &[u8], from: usize) -> Rest
                 };
             }
             Next::Word(w, end) => {
-                if is_foreign(w.address) {
+                if is_program_address(w.address) {
                     return faulty_rest();
                 }
                 b = put_word(b, w);
@@ -231,13 +230,13 @@ fn head_by(w: Word) -> Head
     let address = w.address;
     let number = whole::signed::magnitude(w.value);
     match address {
-        b'%' | b'O' => Head::Program(number),
-        b'N' => Head::Numbered(number),
+        b'%' | b'O' => Head::ProgramLine(number),
+        b'N' => Head::BlockLine(number),
         _ => Head::Other,
     }
 }
 
-// How a line begins, by its first word alone.
+// How a line begins, by its first word alone; a line whose first word is faulty begins as a blank one.
 pub fn head_of(line: &[u8]) -> Head
     ensures { λ r. ⌜ r ≡ headOf (now (line .entry)) ⌝ }
 {
@@ -249,7 +248,7 @@ pub fn head_of(line: &[u8]) -> Head
     }
 }
 
-// A whole line.
+// The text of a whole line that is not too long (alarm 7 is judged before).
 pub fn read_line(line: &[u8]) -> Reading
     requires { ⌜ length (now line) ≤ 160 ⌝ }
     ensures { λ r. ⌜ r ≡ lineOf (now (line .entry)) ⌝ }

@@ -1,99 +1,79 @@
+-- `block::codes::g_code` meets its contract.
 use mathlib.Core.Path.{sym}
 use Rattle.block.specs.Codes.{gCode}
 use Rattle.block.proofs.Tables.{shift-a, shift-b, none-low, none-high}
 use borrow.Author.Needs.{needs}
 use Rattle.block.proofs.codes.g_code.Statement.{statement}
 use Rattle.block.proofs.codes.g_code.Tie as tie
-use Rattle.block.proofs.codes.g_code.Reads as reads
-use Rattle.block.proofs.codes.g_code.Lts as lts
 
--- src/codes.rt:54:47
 sub-t20 : tie.Need-sub-t20
 sub-t20 c = search needs
 
--- src/codes.rt:38:1
 returns : tie.Need-returns
 unfolding gCode
 returns c = rw (c .match .keys1)
 
--- src/codes.rt:38:1
 returns-2 : tie.Need-returns-2
 unfolding gCode
 returns-2 c = rw (c .match .keys2)
 
--- src/codes.rt:38:1
 returns-3 : tie.Need-returns-3
 unfolding gCode
 returns-3 c = rw (c .match .keys3)
 
--- src/codes.rt:38:1
 returns-4 : tie.Need-returns-4
 unfolding gCode
 returns-4 c = rw (c .match .keys4)
 
--- src/codes.rt:38:1
 returns-5 : tie.Need-returns-5
 unfolding gCode
 returns-5 c = rw (c .match .keys5)
 
--- src/codes.rt:38:1
 returns-6 : tie.Need-returns-6
 unfolding gCode
 returns-6 c = rw (c .match .keys6)
 
--- src/codes.rt:38:1
 returns-7 : tie.Need-returns-7
 unfolding gCode
 returns-7 c = rw (c .match .keys7)
 
--- src/codes.rt:38:1
 returns-8 : tie.Need-returns-8
 unfolding gCode
 returns-8 c = rw (c .match .keys8)
 
--- src/codes.rt:38:1
 returns-9 : tie.Need-returns-9
 unfolding gCode
 returns-9 c = rw (c .match .keys9)
 
--- src/codes.rt:38:1
 returns-10 : tie.Need-returns-10
 unfolding gCode
 returns-10 c = rw (c .match .keys10)
 
--- src/codes.rt:38:1
 returns-11 : tie.Need-returns-11
 unfolding gCode
 returns-11 c = rw (c .match .keys11)
 
--- src/codes.rt:38:1
 returns-12 : tie.Need-returns-12
 unfolding gCode
 returns-12 c = rw (c .match .keys12)
 
--- src/codes.rt:38:1
 returns-13 : tie.Need-returns-13
 unfolding gCode
 returns-13 c = rw (c .match .keys13)
 
--- src/codes.rt:38:1
 returns-14 : tie.Need-returns-14
 unfolding gCode
 returns-14 c = rw (c .match .keys14)
 
--- src/codes.rt:38:1
 returns-15 : tie.Need-returns-15
 returns-15 c = sym (shift-a _ (c .before .if1 .left) (c .if2 .taken))
 
--- src/codes.rt:38:1
 returns-16 : tie.Need-returns-16
 returns-16 c = sym (shift-b _ (c .before .if2 .left) (c .if3 .taken) (search needs))
 
--- src/codes.rt:38:1
 returns-17 : tie.Need-returns-17
 returns-17 c = sym (none-low _ (c .if1 .taken) (search needs) (search needs) (search needs) (search needs) (search needs) (search needs))
 
--- src/codes.rt:38:1
 returns-18 : tie.Need-returns-18
 returns-18 c = sym (none-high _ (c .if3 .left) (search needs) (search needs) (search needs) (search needs) (search needs) (search needs) (search needs))
 

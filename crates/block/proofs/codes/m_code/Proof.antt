@@ -1,53 +1,43 @@
+-- `block::codes::m_code` meets its contract.
 use borrow.Author.Needs.{needs}
 use mathlib.Core.Path.{sym}
 use Rattle.block.specs.Codes.{mCode}
 use Rattle.block.proofs.Tables.{m-none}
 use Rattle.block.proofs.codes.m_code.Statement.{statement}
 use Rattle.block.proofs.codes.m_code.Tie as tie
-use Rattle.block.proofs.codes.m_code.Reads as reads
-use Rattle.block.proofs.codes.m_code.Lts as lts
 
--- src/codes.rt:62:1
 returns : tie.Need-returns
 unfolding mCode
 returns c = rw (c .match .keys1)
 
--- src/codes.rt:62:1
 returns-2 : tie.Need-returns-2
 unfolding mCode
 returns-2 c = rw (c .match .keys2)
 
--- src/codes.rt:62:1
 returns-3 : tie.Need-returns-3
 unfolding mCode
 returns-3 c = rw (c .match .keys3)
 
--- src/codes.rt:62:1
 returns-4 : tie.Need-returns-4
 unfolding mCode
 returns-4 c = rw (c .match .keys4)
 
--- src/codes.rt:62:1
 returns-5 : tie.Need-returns-5
 unfolding mCode
 returns-5 c = rw (c .match .keys5)
 
--- src/codes.rt:62:1
 returns-6 : tie.Need-returns-6
 unfolding mCode
 returns-6 c = rw (c .match .keys6)
 
--- src/codes.rt:62:1
 returns-7 : tie.Need-returns-7
 unfolding mCode
 returns-7 c = rw (c .match .keys7)
 
--- src/codes.rt:62:1
 returns-8 : tie.Need-returns-8
 unfolding mCode
 returns-8 c = rw (c .match .keys8)
 
--- src/codes.rt:62:1
 returns-9 : tie.Need-returns-9
 returns-9 c = sym (m-none _ (search needs) (search needs) (search needs) (search needs) (search needs) (search needs) (search needs) (search needs))
 

@@ -1,3 +1,4 @@
+-- `block::rules::judge_line` meets its contract.
 use mathlib.Core.Path.{_≡_, sym, ap, _∙_}
 use mathlib.Core.Bool.{Bool, true, false, cond}
 use mathlib.Core.List.{List}
@@ -12,10 +13,6 @@ use Rattle.block.specs.Rules.{brokenBy, refusedLine, judgedBy, judged}
 use borrow.Author.Needs.{needs}
 use Rattle.block.proofs.rules.judge_line.Statement.{statement}
 use Rattle.block.proofs.rules.judge_line.Tie as tie
-use Rattle.block.proofs.rules.judge_line.Reads as reads
-use Rattle.block.proofs.rules.judge_line.Lts as lts
-use Rattle.block.proofs.rules.breaks_behind.Reads as breaks-behind-reads
-use Rattle.block.proofs.words.read_line.Reads as read-line-reads
 
 -- a line that is not too long, and one of its two ways
 judged-short : (s : List ℕ) → length s ≤ 160 → judged s ≡ judgedBy (lineOf s)
@@ -28,27 +25,22 @@ judged-faulty r e = rw e
 judged-good : (r : Reading) → r .faulty ≡ false → judgedBy r ≡ record { alarm = 0; head = r .head; broken = brokenBy (r .head) (r .block); ends = r .block .ends }
 judged-good r e = rw e
 
--- src/rules.rt:163:9
 returns : tie.Need-returns
 unfolding judged
 returns c = rw (lt-ltb _ _ (c .if1 .taken))
 
--- src/rules.rt:170:9
 read-line-requires : tie.Need-read-line-requires
 read-line-requires c κs = search needs
 
--- src/rules.rt:172:9
 returns-2 : tie.Need-returns-2
 returns-2 c =
     let r = c .before in
     let s = r .before .before .before .args .line .now in
     sym (judged-short s (r .before .if1 .left) ∙ judged-faulty (lineOf s) (ap (λ (x : Reading). x .faulty) (sym (r .read-line .ensures)) ∙ c .if2 .taken))
 
--- src/rules.rt:184:17
 breaks-behind-requires : tie.Need-breaks-behind-requires
 breaks-behind-requires c κs = search needs
 
--- src/rules.rt:159:1
 returns-3 : tie.Need-returns-3
 returns-3 c =
     let r = c .before .before .before in

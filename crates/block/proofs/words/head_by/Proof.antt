@@ -1,7 +1,8 @@
+-- `block::words::head_by` meets its contract.
 use mathlib.Core.Logic.{inl, inr, ⊎-elim}
 use mathlib.Core.Path.{_≡_, ap, sym, _∙_}
-use Rattle.block.specs.declared.words.Head.the-variants.{Program, Numbered}
-use Rattle.block.specs.Words.{isForeign, headBy, numberIn}
+use Rattle.block.specs.declared.words.Head.the-variants.{ProgramLine, BlockLine}
+use Rattle.block.specs.Words.{isProgramAddress, headBy, numberIn}
 use Rattle.block.proofs.Slots.{Not, head-other}
 use mir.Syntax.{w32}
 use mir.Val.{toZ, ofZ}
@@ -9,9 +10,6 @@ use lib.IntN.{natAbs}
 use borrow.Author.Needs.{needs}
 use Rattle.block.proofs.words.head_by.Statement.{statement}
 use Rattle.block.proofs.words.head_by.Tie as tie
-use Rattle.block.proofs.words.head_by.Reads as reads
-use Rattle.block.proofs.words.head_by.Lts as lts
-use Rattle.whole.proofs.signed.magnitude.Reads as magnitude-reads
 
 -- the word's number, as the machine reads it back from its bits
 same-value : (c : tie.After-struct-told) → toZ w32 (ofZ w32 (c .before .args .w .value)) ≡ c .before .args .w .value
@@ -20,21 +18,17 @@ same-value c = search needs
 number : (c : tie.After-magnitude) → c .magnitude .result ≡ numberIn (c .before .before .args .w)
 number c = c .magnitude .ensures ∙ ap natAbs (same-value (c .before))
 
--- src/words.rt:201:9
 magnitude-requires : tie.Need-magnitude-requires
 magnitude-requires c κs = search needs
 
--- src/words.rt:197:1
 returns : tie.Need-returns
-unfolding headBy isForeign
-returns c = ⊎-elim (λ e. rw e (ap Program (number (c .before)))) (λ e. rw e (ap Program (number (c .before)))) (c .match .keys1)
+unfolding headBy isProgramAddress
+returns c = ⊎-elim (λ e. rw e (ap ProgramLine (number (c .before)))) (λ e. rw e (ap ProgramLine (number (c .before)))) (c .match .keys1)
 
--- src/words.rt:197:1
 returns-2 : tie.Need-returns-2
-unfolding headBy isForeign
-returns-2 c = rw (c .match .keys2) (ap Numbered (number (c .before)))
+unfolding headBy isProgramAddress
+returns-2 c = rw (c .match .keys2) (ap BlockLine (number (c .before)))
 
--- src/words.rt:197:1
 returns-3 : tie.Need-returns-3
 unfolding Not
 returns-3 c = sym (head-other (c .before .before .before .args .w) (λ e. c .match .rest .0 .1 (inl e)) (λ e. c .match .rest .0 .1 (inr e)) (c .match .rest .1))

@@ -1,44 +1,33 @@
+-- `block::words::head_of` meets its contract.
 use mathlib.Core.Path.{sym, ap, _∙_}
 use Rattle.block.specs.Words.{headOfNext, headOf}
 use borrow.Author.Needs.{needs}
 use Rattle.block.proofs.words.head_of.Statement.{statement}
 use Rattle.block.proofs.words.head_of.Tie as tie
-use Rattle.block.proofs.words.head_of.Reads as reads
-use Rattle.block.proofs.words.head_of.Lts as lts
-use Rattle.block.proofs.words.head_by.Reads as head-by-reads
-use Rattle.tape.proofs.word.next_word.Reads as next-word-reads
 
--- src/words.rt:244:9
 next-word-requires : tie.Need-next-word-requires
 next-word-requires c κs = search needs
 
--- src/words.rt:246:24
 enum-told : tie.Need-enum-told
 enum-told c = search needs
 
--- src/words.rt:247:22
 enum-told-2 : tie.Need-enum-told-2
 enum-told-2 c = search needs
 
--- src/words.rt:248:20
 enum-known-next : tie.Need-enum-known-next
 enum-known-next c = search needs
 
--- src/words.rt:248:29
 head-by-requires : tie.Need-head-by-requires
 head-by-requires c κs = search needs
 
--- src/words.rt:241:1
 returns : tie.Need-returns
 unfolding headOf
 returns c = ap headOfNext (sym (c .enum-told .given .1) ∙ c .before .before .next-word .ensures .0)
 
--- src/words.rt:241:1
 returns-2 : tie.Need-returns-2
 unfolding headOf
 returns-2 c = ap headOfNext (sym (c .enum-told2 .given .1) ∙ c .before .before .next-word .ensures .0)
 
--- src/words.rt:241:1
 returns-3 : tie.Need-returns-3
 unfolding headOf
 returns-3 c =

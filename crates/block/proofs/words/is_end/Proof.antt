@@ -1,3 +1,4 @@
+-- `block::words::is_end` meets its contract.
 use mathlib.Core.Path.{_≡_, ap, _∙_}
 use mathlib.Core.Bool.{_&&_}
 use lib.Dec.{eqb}
@@ -9,19 +10,14 @@ use Rattle.block.specs.Words.{isEnd}
 use borrow.Author.Needs.{needs}
 use Rattle.block.proofs.words.is_end.Statement.{statement}
 use Rattle.block.proofs.words.is_end.Tie as tie
-use Rattle.block.proofs.words.is_end.Reads as reads
-use Rattle.block.proofs.words.is_end.Lts as lts
-use Rattle.whole.proofs.signed.magnitude.Reads as magnitude-reads
 
 -- the word's number, as the machine reads it back from its bits
 same-value : (c : tie.After-struct-told) → toZ w32 (ofZ w32 (c .before .before .args .w .value)) ≡ c .before .before .args .w .value
 same-value c = search needs
 
--- src/words.rt:149:28
 magnitude-requires : tie.Need-magnitude-requires
 magnitude-requires c κs = search needs
 
--- src/words.rt:146:1
 returns : tie.Need-returns
 unfolding isEnd
 returns c =

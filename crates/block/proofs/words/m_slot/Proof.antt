@@ -1,3 +1,4 @@
+-- `block::words::m_slot` meets its contract.
 use mathlib.Core.Path.{_≡_, ap, sym, _∙_, subst}
 use Prim.Native.Nat.{_<_}
 use Rattle.block.proofs.Tables.{CodeIn, m-groups}
@@ -7,19 +8,13 @@ use native.Mathlib.Omega.{arith}
 use borrow.Author.Needs.{needs}
 use Rattle.block.proofs.words.m_slot.Statement.{statement}
 use Rattle.block.proofs.words.m_slot.Tie as tie
-use Rattle.block.proofs.words.m_slot.Reads as reads
-use Rattle.block.proofs.words.m_slot.Lts as lts
-use Rattle.block.proofs.codes.m_code.Reads as m-code-reads
 
--- src/words.rt:100:9
 m-code-requires : tie.Need-m-code-requires
 m-code-requires c κs = search needs
 
--- src/words.rt:102:18
 enum-known-code : tie.Need-enum-known-code
 enum-known-code c = search needs
 
--- src/words.rt:102:40
 -- the group is one of the table's
 group : (c : tie.After-known-told) → c .before .code .given .0 .0 < 4
 group c =
@@ -29,15 +24,12 @@ group c =
 add-t5 : tie.Need-add-t5
 add-t5 c = omega (arith, group c)
 
--- src/words.rt:103:26
 enum-told : tie.Need-enum-told
 enum-told c = search needs
 
--- src/words.rt:97:1
 returns : tie.Need-returns
 returns c = let s = c .before .before .before in (ap (λ (k : Code). codeSlot k mFirst) (sym (c .before .code .given .1) ∙ s .m-code .ensures), omega (arith, group c))
 
--- src/words.rt:97:1
 returns-2 : tie.Need-returns-2
 returns-2 c = (ap (λ (k : Code). codeSlot k mFirst) (sym (c .enum-told .given .1) ∙ c .before .before .m-code .ensures), tt)
 

@@ -1,3 +1,4 @@
+-- `block::words::put_word` meets its contract.
 use mathlib.Core.Path.{_≡_, ap, sym, _∙_, subst}
 use mathlib.Core.Bool.{Bool, true}
 use Prim.Native.Nat.{ℕ, _+_, _<_}
@@ -14,10 +15,6 @@ use lib.IntN.{ℤ}
 use borrow.Author.Needs.{needs}
 use Rattle.block.proofs.words.put_word.Statement.{statement}
 use Rattle.block.proofs.words.put_word.Tie as tie
-use Rattle.block.proofs.words.put_word.Reads as reads
-use Rattle.block.proofs.words.put_word.Lts as lts
-use Rattle.block.proofs.words.is_end.Reads as is-end-reads
-use Rattle.block.proofs.words.slot_of.Reads as slot-of-reads
 
 -- the word's number, as the machine reads it back from its bits
 same-value : (c : tie.After-struct-told) → toZ w32 (ofZ w32 (c .before .before .args .w .value)) ≡ c .before .before .args .w .value
@@ -27,43 +24,33 @@ same-value c = search needs
 slot-in : (c : tie.After-known-told) → c .before .slot .given .0 .0 < 40
 slot-in c = subst SlotIn (c .before .slot .given .1) (c .before .before .before .before .before .slot-of .ensures .1)
 
--- src/words.rt:157:9
 slot-of-requires : tie.Need-slot-of-requires
 slot-of-requires c κs = search needs
 
--- src/words.rt:159:9
 is-end-requires : tie.Need-is-end-requires
 is-end-requires c κs = search needs
 
--- src/words.rt:161:13
 add-n : tie.Need-add-n
 add-n c = search needs
 
--- src/words.rt:165:18
 enum-known-slot : tie.Need-enum-known-slot
 enum-known-slot c = search needs
 
--- src/words.rt:166:13
 mul-value : tie.Need-mul-value
 mul-value c = omega (arith, slot-in c)
 
--- src/words.rt:166:13
 element-set-from-value : tie.Need-element-set-from-value
 element-set-from-value c = slot-in c
 
--- src/words.rt:167:13
 element-write-b : tie.Need-element-write-b
 element-write-b c = slot-in c
 
--- src/words.rt:171:13
 enum-told : tie.Need-enum-told
 enum-told c = search needs
 
--- src/words.rt:175:13
 enum-told-2 : tie.Need-enum-told-2
 enum-told-2 c = search needs
 
--- src/words.rt:153:1
 -- a word whose slot is known
 put-by : (b : Block) (w : Word) {k : Slot} → slotOf w ≡ k → putIn k b w ≡ putWord b w
 unfolding putWord

@@ -1,3 +1,4 @@
+-- `block::words::read_line` meets its contract.
 use borrow.Author.Needs.{needs}
 use mathlib.Core.Path.{_≡_, sym, ap, _∙_, subst}
 use mathlib.Core.Bool.{true, false}
@@ -11,43 +12,30 @@ use Rattle.block.specs.Words.{faultyRest, gather, reading, lineBy, lineO
 use borrow.Author.Needs.{needs}
 use Rattle.block.proofs.words.read_line.Statement.{statement}
 use Rattle.block.proofs.words.read_line.Tie as tie
-use Rattle.block.proofs.words.read_line.Reads as reads
-use Rattle.block.proofs.words.read_line.Lts as lts
-use Rattle.block.proofs.words.head_by.Reads as head-by-reads
-use Rattle.block.proofs.words.no_words.Reads as no-words-reads
-use Rattle.block.proofs.words.read_rest.Reads as read-rest-reads
-use Rattle.tape.proofs.word.next_word.Reads as next-word-reads
 
 -- a line whose first word is known
 line-by : (s : List ℕ) {n : Next} → nextWord s 0 ≡ n → lineBy s n ≡ lineOf s
 unfolding lineOf
 line-by s e = ap (lineBy s) (sym e)
 
--- src/words.rt:257:9
 next-word-requires : tie.Need-next-word-requires
 next-word-requires c κs = search needs
 
--- src/words.rt:260:19
 enum-told : tie.Need-enum-told
 enum-told c = search needs
 
--- src/words.rt:261:20
 no-words-requires : tie.Need-no-words-requires
 no-words-requires c κs = search needs
 
--- src/words.rt:265:19
 enum-told-2 : tie.Need-enum-told-2
 enum-told-2 c = search needs
 
--- src/words.rt:266:20
 no-words-requires-2 : tie.Need-no-words-requires-2
 no-words-requires-2 c κs = search needs
 
--- src/words.rt:269:20
 enum-known-next : tie.Need-enum-known-next
 enum-known-next c = search needs
 
--- src/words.rt:270:17
 read-rest-requires : tie.Need-read-rest-requires
 read-rest-requires c κs =
     let x = c .before in
@@ -55,11 +43,9 @@ read-rest-requires c κs =
     let s = n .before .before in
     (subst (λ (t : Next). NextIn t 0 (length (s .args .line .now))) (x .next .given .1) (n .next-word .ensures .1) .1, s .pre)
 
--- src/words.rt:273:23
 head-by-requires : tie.Need-head-by-requires
 head-by-requires c κs = search needs
 
--- src/words.rt:253:1
 returns : tie.Need-returns
 unfolding faultyRest
 returns c =
@@ -67,7 +53,6 @@ returns c =
     (λ i. reading Blank (record { block = c .no-words .ensures i; faulty = true }))
     ∙ line-by (n .before .before .args .line .now) (sym (n .next-word .ensures .0) ∙ c .before .enum-told .given .1)
 
--- src/words.rt:253:1
 returns-2 : tie.Need-returns-2
 unfolding gather
 returns-2 c =
@@ -75,7 +60,6 @@ returns-2 c =
     (λ i. reading Blank (record { block = c .no-words2 .ensures i; faulty = false }))
     ∙ line-by (n .before .before .args .line .now) (sym (n .next-word .ensures .0) ∙ c .before .enum-told2 .given .1)
 
--- src/words.rt:253:1
 returns-3 : tie.Need-returns-3
 returns-3 c =
     let r = c .before .before in

@@ -1,3 +1,4 @@
+-- `block::words::read_rest` meets its contract.
 use borrow.Author.Needs.{needs}
 use native.Mathlib.Omega.{arith}
 use mathlib.Core.Path.{_≡_, sym, ap, _∙_, subst}
@@ -12,13 +13,6 @@ use Rattle.block.specs.Words.{noWords, gather}
 use Rattle.block.proofs.Lines.{none, put-words, rest-fault, rest-end, rest-foreign, rest-word}
 use Rattle.block.proofs.words.read_rest.Statement.{statement}
 use Rattle.block.proofs.words.read_rest.Tie as tie
-use Rattle.block.proofs.words.read_rest.Reads as reads
-use Rattle.block.proofs.words.read_rest.Lts as lts
-use Rattle.block.proofs.words.faulty_rest.Reads as faulty-rest-reads
-use Rattle.block.proofs.words.is_foreign.Reads as is-foreign-reads
-use Rattle.block.proofs.words.no_words.Reads as no-words-reads
-use Rattle.block.proofs.words.put_word.Reads as put-word-reads
-use Rattle.tape.proofs.word.next_word.Reads as next-word-reads
 
 abbrev Inv-loop : tie.InvT-loop
 Inv-loop line from b₀ i₀ b i = (i ≤ length line) × (b .words ≤ i) × (gather noWords (wordsFrom line from) ≡ gather b (wordsFrom line i))
@@ -26,29 +20,23 @@ Inv-loop line from b₀ i₀ b i = (i ≤ length line) × (b .words ≤ i) × (g
 abbrev μ-loop : tie.MeasureT-loop
 μ-loop line from b₀ i₀ b i = length line - i
 
--- src/words.rt:203:9
 no-words-requires : tie.Need-no-words-requires Inv-loop μ-loop
 no-words-requires c κs = search needs
 
--- src/words.rt:205:5
 loop-holds : tie.Need-loop-holds Inv-loop μ-loop
 loop-holds c =
     let s = c .before .before in
     (s .pre .0, subst (λ (b : Block). b .words ≤ s .args .from) (sym (c .no-words .ensures)) none, ap (λ (b : Block). gather b (wordsFrom (s .args .line .now) (s .args .from))) (sym (c .no-words .ensures)))
 
--- src/words.rt:206:13
 next-word-requires : tie.Need-next-word-requires Inv-loop μ-loop
 next-word-requires c κs = c .loop .inv .0
 
--- src/words.rt:209:17
 enum-told : tie.Need-enum-told Inv-loop μ-loop
 enum-told c = search needs
 
--- src/words.rt:209:17
 faulty-rest-requires : tie.Need-faulty-rest-requires Inv-loop μ-loop
 faulty-rest-requires c κs = search needs
 
--- src/words.rt:209:17
 returns : tie.Need-returns Inv-loop μ-loop
 returns c =
     let n = c .before .before .before in
@@ -57,11 +45,9 @@ returns c =
     c .faulty-rest .ensures
     ∙ sym (l .loop .inv .2 ∙ rest-fault (s .args .line .now) (l .loop .i) (l .loop .inv .0) (l .loop .b) (sym (n .next-word .ensures .0) ∙ c .before .enum-told .given .1))
 
--- src/words.rt:212:17
 enum-told-2 : tie.Need-enum-told-2 Inv-loop μ-loop
 enum-told-2 c = search needs
 
--- src/words.rt:212:17
 returns-2 : tie.Need-returns-2 Inv-loop μ-loop
 returns-2 c =
     let n = c .before .before in
@@ -69,19 +55,15 @@ returns-2 c =
     let s = l .before .before .before in
     sym (l .loop .inv .2 ∙ rest-end (s .args .line .now) (l .loop .i) (l .loop .inv .0) (l .loop .b) (sym (n .next-word .ensures .0) ∙ c .enum-told2 .given .1))
 
--- src/words.rt:217:24
 enum-known-next : tie.Need-enum-known-next Inv-loop μ-loop
 enum-known-next c = search needs
 
--- src/words.rt:218:20
-is-foreign-requires : tie.Need-is-foreign-requires Inv-loop μ-loop
-is-foreign-requires c κs = search needs
+is-program-address-requires : tie.Need-is-program-address-requires Inv-loop μ-loop
+is-program-address-requires c κs = search needs
 
--- src/words.rt:219:21
 faulty-rest-requires-2 : tie.Need-faulty-rest-requires-2 Inv-loop μ-loop
 faulty-rest-requires-2 c κs = search needs
 
--- src/words.rt:219:21
 returns-3 : tie.Need-returns-3 Inv-loop μ-loop
 returns-3 c =
     let x = c .before .before .before .before in
@@ -90,9 +72,8 @@ returns-3 c =
     let s = l .before .before .before in
     c .faulty-rest2 .ensures
     ∙ sym (l .loop .inv .2 ∙ rest-foreign (s .args .line .now) (l .loop .i) (l .loop .inv .0) (l .loop .b) (sym (n .next-word .ensures .0) ∙ x .next .given .1)
-    (sym (c .before .before .is-foreign .ensures) ∙ c .before .if1 .taken))
+    (sym (c .before .before .is-program-address .ensures) ∙ c .before .if1 .taken))
 
--- src/words.rt:221:17
 -- a word that was read ends further on, within the line, and has an index of one digit
 module _ (x : tie.After-next Inv-loop μ-loop) where
   place : NextIn (next.Word (x .next .given .0 .0) (x .next .given .0 .1 .0)) (x .before .before .before .loop .i) (length (x .before .before .before .before .before .before .args .line .now))
@@ -124,9 +105,12 @@ loop-again c =
     let l = n .before in
     let s = l .before .before .before in
     let p = place x in
-    let k : c .put-word .result .words ≡ l .loop .b .words + 1 = ap (λ (b : Block). b .words) (c .put-word .ensures) ∙ put-words (l .loop .b) (x .next .given .0 .0) in
-    (p .1, omega arith, l .loop .inv .2 ∙ rest-word (s .args .line .now) (l .loop .i) (l .loop .inv .0) (l .loop .b) (sym (n .next-word .ensures .0) ∙ x .next .given .1)
-    (sym (c .before .before .is-foreign .ensures) ∙ c .before .if1 .left) ∙ ap (λ (b : Block). gather b (wordsFrom (s .args .line .now) (x .next .given .0 .1 .0))) (sym (c .put-word .ensures)))
+    let k : c .put-word .result .words ≡ l .loop .b .words + 1 = ap (λ (b : Block). b .words) (c .put-word .ensures) ∙ put-words (l .loop .b) (x .next .given .0 .0) in (
+      p .1,
+      omega arith,
+      l .loop .inv .2 ∙ rest-word (s .args .line .now) (l .loop .i) (l .loop .inv .0) (l .loop .b) (sym (n .next-word .ensures .0) ∙ x .next .given .1)
+          (sym (c .before .before .is-program-address .ensures) ∙ c .before .if1 .left) ∙ ap (λ (b : Block). gather b (wordsFrom (s .args .line .now) (x .next .given .0 .1 .0))) (sym (c .put-word .ensures)),
+    )
 
 pub read-rest-spec : {M : Type 1} → statement M
 read-rest-spec =
@@ -143,7 +127,7 @@ read-rest-spec =
     enum-told-2
     returns-2
     enum-known-next
-    is-foreign-requires
+    is-program-address-requires
     faulty-rest-requires-2
     returns-3
     put-word-requires

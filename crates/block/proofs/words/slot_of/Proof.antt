@@ -1,3 +1,4 @@
+-- `block::words::slot_of` meets its contract.
 use mathlib.Core.Path.{_≡_, ap, sym, _∙_}
 use Prim.Native.Nat.{ℕ, _+_}
 use native.Mathlib.Omega.{arith}
@@ -11,12 +12,6 @@ use lib.IntN.{natAbs}
 use borrow.Author.Needs.{needs}
 use Rattle.block.proofs.words.slot_of.Statement.{statement}
 use Rattle.block.proofs.words.slot_of.Tie as tie
-use Rattle.block.proofs.words.slot_of.Reads as reads
-use Rattle.block.proofs.words.slot_of.Lts as lts
-use Rattle.block.proofs.words.g_slot.Reads as g-slot-reads
-use Rattle.block.proofs.words.m_slot.Reads as m-slot-reads
-use Rattle.block.proofs.words.wide.Reads as wide-reads
-use Rattle.whole.proofs.signed.magnitude.Reads as magnitude-reads
 
 -- the word's number, as the machine reads it back from its bits
 same-value : (c : tie.After-struct-told) → toZ w32 (ofZ w32 (c .before .before .before .args .w .value)) ≡ c .before .before .before .args .w .value
@@ -25,104 +20,87 @@ same-value c = search needs
 same-value2 : (c : tie.After-struct-told2) → toZ w32 (ofZ w32 (c .before .before .before .args .w .value)) ≡ c .before .before .before .args .w .value
 same-value2 c = search needs
 
--- src/words.rt:113:9
 wide-requires : tie.Need-wide-requires
 wide-requires c κs = search needs
 
--- src/words.rt:123:26
 add-t5 : tie.Need-add-t5
 add-t5 c = search needs
 
--- src/words.rt:124:26
 add-t6 : tie.Need-add-t6
 add-t6 c = search needs
 
--- src/words.rt:125:24
 magnitude-requires : tie.Need-magnitude-requires
 magnitude-requires c κs = search needs
 
--- src/words.rt:125:17
 g-slot-requires : tie.Need-g-slot-requires
 g-slot-requires c κs = search needs
 
--- src/words.rt:126:24
 magnitude-requires-2 : tie.Need-magnitude-requires-2
 magnitude-requires-2 c κs = search needs
 
--- src/words.rt:126:17
 m-slot-requires : tie.Need-m-slot-requires
 m-slot-requires c κs = search needs
 
--- src/words.rt:108:1
 returns : tie.Need-returns
 unfolding slotOf
 returns c = (rw (c .match .keys1), omega arith)
 
--- src/words.rt:108:1
 returns-2 : tie.Need-returns-2
 unfolding slotOf
 returns-2 c = (rw (c .match .keys2), omega arith)
 
--- src/words.rt:108:1
 returns-3 : tie.Need-returns-3
 unfolding slotOf
 returns-3 c = (rw (c .match .keys3), omega arith)
 
--- src/words.rt:108:1
 returns-4 : tie.Need-returns-4
 unfolding slotOf
 returns-4 c = (rw (c .match .keys4), omega arith)
 
--- src/words.rt:108:1
 returns-5 : tie.Need-returns-5
 unfolding slotOf
 returns-5 c = (rw (c .match .keys5), omega arith)
 
--- src/words.rt:108:1
 returns-6 : tie.Need-returns-6
 unfolding slotOf
 returns-6 c = (rw (c .match .keys6), omega arith)
 
--- src/words.rt:108:1
 returns-7 : tie.Need-returns-7
 unfolding slotOf
 returns-7 c = (rw (c .match .keys7), omega arith)
 
--- src/words.rt:108:1
 returns-8 : tie.Need-returns-8
 unfolding slotOf
 returns-8 c = (rw (c .match .keys8), omega arith)
 
--- src/words.rt:108:1
 returns-9 : tie.Need-returns-9
 unfolding slotOf
 returns-9 c = (rw (c .match .keys9) (ap (λ (n : ℕ). At (pFirst + n)) (c .before .wide .ensures)), omega arith)
 
--- src/words.rt:108:1
 returns-10 : tie.Need-returns-10
 unfolding slotOf
 returns-10 c = (rw (c .match .keys10) (ap (λ (n : ℕ). At (dFirst + n)) (c .before .wide .ensures)), omega arith)
 
--- src/words.rt:108:1
 returns-11 : tie.Need-returns-11
 unfolding slotOf
-returns-11 c =
-    (c .g-slot .ensures .0 ∙ ap (λ (n : ℕ). codeSlot (gCode n) gFirst) (c .before .magnitude .ensures ∙ ap natAbs (same-value (c .before .before)))
-    ∙ sym (rw (c .before .before .before .match .keys11)), c .g-slot .ensures .1)
+returns-11 c = (
+  c .g-slot .ensures .0 ∙ ap (λ (n : ℕ). codeSlot (gCode n) gFirst) (c .before .magnitude .ensures ∙ ap natAbs (same-value (c .before .before)))
+      ∙ sym (rw (c .before .before .before .match .keys11)),
+  c .g-slot .ensures .1,
+)
 
--- src/words.rt:108:1
 returns-12 : tie.Need-returns-12
 unfolding slotOf
-returns-12 c =
-    (c .m-slot .ensures .0 ∙ ap (λ (n : ℕ). codeSlot (mCode n) mFirst) (c .before .magnitude2 .ensures ∙ ap natAbs (same-value2 (c .before .before)))
-    ∙ sym (rw (c .before .before .before .match .keys12)), c .m-slot .ensures .1)
+returns-12 c = (
+  c .m-slot .ensures .0 ∙ ap (λ (n : ℕ). codeSlot (mCode n) mFirst) (c .before .magnitude2 .ensures ∙ ap natAbs (same-value2 (c .before .before)))
+      ∙ sym (rw (c .before .before .before .match .keys12)),
+  c .m-slot .ensures .1,
+)
 
--- src/words.rt:108:1
 returns-13 : tie.Need-returns-13
 unfolding slotOf
 returns-13 c = (rw (c .match .keys13), tt)
 
--- src/words.rt:108:1
 returns-14 : tie.Need-returns-14
 unfolding Not
 returns-14 c = (sym (slot-none (c .before .before .args .w) (search needs) (search needs) (search needs) (search needs) (search needs) (search needs) (search needs) (search needs) (search needs) (search needs) (search needs) (search needs) (search needs)), tt)

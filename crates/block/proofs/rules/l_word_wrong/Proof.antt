@@ -1,0 +1,18 @@
+-- `block::rules::l_word_wrong` meets its contract.
+use Rattle.block.specs.Rules.{lWordWrong}
+use borrow.Author.Needs.{needs}
+use Rattle.block.proofs.rules.l_word_wrong.Statement.{statement}
+use Rattle.block.proofs.rules.l_word_wrong.Tie as tie
+
+has-requires : tie.Need-has-requires
+has-requires c κs = search needs
+
+calls-or-jumps-requires : tie.Need-calls-or-jumps-requires
+calls-or-jumps-requires c κs = search needs
+
+returns : tie.Need-returns
+unfolding lWordWrong
+returns c = cc
+
+pub l-word-wrong-spec : {M : Type 1} → statement M
+l-word-wrong-spec = tie.close (tie.spec has-requires calls-or-jumps-requires returns)
