@@ -3,3 +3,4 @@ pub mod Tables
 pub mod Ruling
 pub mod Slots
 pub mod Lines
+pub mod Heads

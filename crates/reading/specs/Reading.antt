@@ -1,0 +1,67 @@
+-- 01, "Alarms and their order": "then lines from the front, each 7, 5, 6, 8, 9". Alarm 6: "line starts with another word, program number repeated or above 6999,
+-- block number repeated in its program"; alarm 8: "more than 10,000 blocks in a program". "Reading ends after a line whose last word is M30 (001)."
+use mathlib.Core.Bool.{Bool, false, cond, _||_}
+use mathlib.Core.List.{List, [], _∷_}
+use Prim.Native.Nat.{ℕ}
+use lib.Dec.{leb, ltb, eqb}
+use lib.ListN.{length}
+use Rattle.alarms.specs.Numbers.{noProgram, badLineStart, tooManyBlocks, wordRules}
+use Rattle.tape.specs.Letters.{among}
+use Rattle.tape.specs.Lines.{seekFrom, opensTape, Text, lines}
+use Rattle.block.specs.Rules.{judged}
+use Rattle.block.specs.declared.rules.Judged.{Judged}
+use Rattle.block.specs.declared.words.Head.{Head}
+use Rattle.block.specs.declared.words.Head.the-variants.{Blank, ProgramLine, BlockLine, Other}
+use Rattle.reading.specs.declared.read.Read.{Read}
+use Rattle.reading.specs.declared.read.Read.the-variants.{Whole, Alarm}
+
+-- what was read so far: the program numbers, and the block numbers of the present program
+pub record History : Type 0 where
+  pub programs : List ℕ
+  pub blocks : List ℕ
+
+abbrev pub nothingRead : History
+nothingRead = record { programs = []; blocks = [] }
+
+-- alarms 6, 8 and 9 of a line, in this order; 0 for none. The last argument: whether the line breaks a word rule
+unfoldable pub headAlarm : History → Head → Bool → ℕ
+headAlarm h Blank broken = 0
+headAlarm h Other broken = badLineStart
+headAlarm h (ProgramLine n) broken = cond (ltb 6_999 n || among n (h .programs)) badLineStart (cond broken wordRules 0)
+headAlarm h (BlockLine n) broken =
+    cond (among n (h .blocks)) badLineStart (cond (leb 10_000 (length (h .blocks))) tooManyBlocks (cond broken wordRules 0))
+
+-- a line's alarm: 7 or 5, which it shows by itself, else 6, 8 or 9
+unfoldable pub lineAlarm : History → Judged → ℕ
+lineAlarm h j = cond (eqb (j .alarm) 0) (headAlarm h (j .head) (j .broken)) (j .alarm)
+
+-- what was read, with one line more
+unfoldable pub noted : History → Head → History
+noted h Blank = h
+noted h Other = h
+noted h (ProgramLine n) = record { programs = n ∷ h .programs; blocks = [] }
+noted h (BlockLine n) = record { programs = h .programs; blocks = n ∷ h .blocks }
+
+-- reading ends with a block line whose last word is M30. (Behind a program number M30 is alarm 9, and as a line's first word alarm 6.)
+unfoldable pub endsWith : Head → Bool → Bool
+endsWith (BlockLine n) ends = ends
+endsWith Blank ends = false
+endsWith Other ends = false
+endsWith (ProgramLine n) ends = false
+
+-- one line, with what the lines behind it give
+abbrev pub afterLine : ℕ → ℕ → Bool → Text → Read → Read
+afterLine first alarm ends t rest = cond (eqb alarm 0) (cond ends (Whole first (t .after)) rest) (Alarm alarm (t .place))
+
+-- the lines one after the other; the tape ends at `end`
+unfoldable pub readLines : ℕ → ℕ → History → List Text → Read
+readLines first end h [] = Whole first end
+readLines first end h (t ∷ ts) =
+    let j = judged (t .bytes) in
+    afterLine first (lineAlarm h j) (endsWith (j .head) (j .ends)) t (readLines first end (noted h (j .head)) ts)
+
+-- a tape: alarm 4, "no `%` or `O`", or its lines from the first
+unfoldable pub readOf : List ℕ → Read
+readOf s =
+    let first = seekFrom opensTape s 0 in
+    cond (ltb first (length s)) (readLines first (length s) nothingRead (lines s first)) (Alarm noProgram 0)

@@ -1,0 +1,104 @@
+// Reading a tape from its first program line to the end of reading. Repeated numbers are found by two tables, in the same pass:
+// a flag for each program number, and for each block number the mark of the program in which it was last seen.
+use block::words::Head;
+ghost use mathlib.Core.Path.{_≡_};
+ghost use Prim.Native.Nat.{_<_};
+ghost use lib.ListN.{length};
+ghost use Rattle.tape.specs.Lines.{lines};
+ghost use Rattle.reading.specs.Reading.{nothingRead, readLines, readOf};
+
+pub const HIGHEST_PROGRAM: u32 = 6_999;
+
+pub const MOST_BLOCKS: usize = 10_000;
+
+// The place of the first line and the place behind the last line that is read; or an alarm and the first byte of its line.
+pub enum Read {
+    Whole(usize, usize),
+    Alarm(u8, usize),
+}
+
+fn wide(n: u32) -> usize
+    ensures { λ r. ⌜ r ≡ n ⌝ }
+{
+    n as usize
+}
+
+// The lines from `first` on.
+fn read_lines(tape: &[u8], first: usize) -> Read
+    requires { ⌜ first < length (now tape) ⌝ }
+    ensures { λ r. ⌜ r ≡ readLines first (length (now (tape .entry))) nothingRead (lines (now (tape .entry)) first) ⌝ }
+{
+    let mut programs = [false; 7000];
+    let mut blocks = [0usize; 10000];
+    // the mark of a program: the place of its line and one more, so that no two programs have the same, and none has 0
+    let mut mark = first + 1;
+    let mut count: usize = 0;
+    let mut p = first;
+    loop {
+        if p >= tape.len() {
+            return Read::Whole(first, tape.len());
+        }
+        let line = tape::line::line_at(tape, p);
+        let stop = line.stop;
+        let after = line.after;
+        let judged = block::rules::judge_line(&tape[p..stop]);
+        let alarm = judged.alarm;
+        if alarm != 0 {
+            return Read::Alarm(alarm, p);
+        }
+        let head = judged.head;
+        match head {
+            Head::Blank => {
+                p = after;
+            }
+            Head::Other => {
+                return Read::Alarm(alarms::BAD_LINE_START, p);
+            }
+            Head::ProgramLine(n) => {
+                if n > HIGHEST_PROGRAM {
+                    return Read::Alarm(alarms::BAD_LINE_START, p);
+                }
+                let k = wide(n);
+                if programs[k] {
+                    return Read::Alarm(alarms::BAD_LINE_START, p);
+                }
+                if judged.broken {
+                    return Read::Alarm(alarms::WORD_RULES, p);
+                }
+                programs[k] = true;
+                mark = p + 1;
+                count = 0;
+                p = after;
+            }
+            Head::BlockLine(n) => {
+                let k = wide(n);
+                if blocks[k] == mark {
+                    return Read::Alarm(alarms::BAD_LINE_START, p);
+                }
+                if count >= MOST_BLOCKS {
+                    return Read::Alarm(alarms::TOO_MANY_BLOCKS, p);
+                }
+                if judged.broken {
+                    return Read::Alarm(alarms::WORD_RULES, p);
+                }
+                blocks[k] = mark;
+                count += 1;
+                if judged.ends {
+                    return Read::Whole(first, after);
+                }
+                p = after;
+            }
+        }
+    }
+}
+
+// A whole tape, whatever its bytes are.
+pub fn read_tape(tape: &[u8]) -> Read
+    ensures { λ r. ⌜ r ≡ readOf (now (tape .entry)) ⌝ }
+{
+    let first = tape::line::first_line(tape);
+    if first >= tape.len() {
+        return Read::Alarm(alarms::NO_PROGRAM, 0);
+    }
+    read_lines(tape, first)
+}
