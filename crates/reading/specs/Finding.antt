@@ -1,9 +1,10 @@
--- 01: "G25: L is 100 times the subroutine number plus the repeats", "G27 goes to the block numbered L of the same program". A program ends where the next begins.
-use mathlib.Core.Bool.{Bool, cond}
+-- 01, alarm 10: "main missing; called number .. missing", and "G27 goes to the block numbered L of the same program", alarm 11. A program ends where the next one
+-- begins or where the lines end.
+use mathlib.Core.Bool.{cond}
 use mathlib.Core.List.{List, [], _∷_}
 use Prim.Native.Nat.{ℕ}
 use lib.Dec.{eqb}
-use Rattle.tape.specs.Lines.{Text}
+use Rattle.tape.specs.Lines.{Text, lineAt, lines}
 use Rattle.block.specs.Words.{headOf}
 use Rattle.block.specs.declared.words.Head.{Head}
 use Rattle.block.specs.declared.words.Head.the-variants.{Blank, ProgramLine, BlockLine, Other}
@@ -29,7 +30,11 @@ blockAt n (BlockLine k) place rest = cond (eqb k n) (At place) rest
 blockAt n Blank place rest = rest
 blockAt n Other place rest = rest
 
--- the place of the block n among the lines of its program, from some line of it on
+-- the place of the block n among some lines, up to the next program line
 unfoldable pub findBlock : ℕ → List Text → Found
 findBlock n [] = Nowhere
 findBlock n (t ∷ ts) = blockAt n (headOf (t .bytes)) (t .place) (findBlock n ts)
+
+-- the place of the block n of the program whose line stands at `program`: all lines behind the program line are searched
+unfoldable pub blockOfProgram : ℕ → List ℕ → ℕ → Found
+blockOfProgram n tape program = findBlock n (lines tape (lineAt tape program .after))

@@ -31,7 +31,7 @@ headAlarm h (ProgramLine n) broken = cond (ltb 6_999 n || among n (h .programs))
 headAlarm h (BlockLine n) broken =
     cond (among n (h .blocks)) badLineStart (cond (leb 10_000 (length (h .blocks))) tooManyBlocks (cond broken wordRules 0))
 
--- a line's alarm: 7 or 5, which it shows by itself, else 6, 8 or 9
+-- a line's alarm: 7 or 5, which it shows by itself, else 6, 8 or 9, else 0
 unfoldable pub lineAlarm : History → Judged → ℕ
 lineAlarm h j = cond (eqb (j .alarm) 0) (headAlarm h (j .head) (j .broken)) (j .alarm)
 
@@ -42,7 +42,7 @@ noted h Other = h
 noted h (ProgramLine n) = record { programs = n ∷ h .programs; blocks = [] }
 noted h (BlockLine n) = record { programs = h .programs; blocks = n ∷ h .blocks }
 
--- reading ends with a block line whose last word is M30. (Behind a program number M30 is alarm 9, and as a line's first word alarm 6.)
+-- reading ends with a block line whose last word is M30. (Any other line that ends with M30 has an alarm.)
 unfoldable pub endsWith : Head → Bool → Bool
 endsWith (BlockLine n) ends = ends
 endsWith Blank ends = false

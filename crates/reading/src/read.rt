@@ -11,7 +11,7 @@ pub const HIGHEST_PROGRAM: u32 = 6_999;
 
 pub const MOST_BLOCKS: usize = 10_000;
 
-// The place of the first line and the place behind the last line that is read; or an alarm and the first byte of its line.
+// The place of the first line and the place behind the last line that is read; or an alarm and the first byte of its line (0 where there is no line).
 pub enum Read {
     Whole(usize, usize),
     Alarm(u8, usize),
@@ -92,7 +92,7 @@ fn read_lines(tape: &[u8], first: usize) -> Read
     }
 }
 
-// A whole tape, whatever its bytes are.
+// A whole tape, whatever its bytes are and however many (alarm 2 is judged before).
 pub fn read_tape(tape: &[u8]) -> Read
     ensures { λ r. ⌜ r ≡ readOf (now (tape .entry)) ⌝ }
 {

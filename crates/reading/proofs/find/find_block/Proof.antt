@@ -1,127 +1,24 @@
 -- `reading::find::find_block` meets its contract.
--- The invariant: p is within the tape, and what is sought from the start on is what is sought from the line at p on.
-use Prim.Native.Nat.{_-_, _<_, _≤_}
-use mathlib.Core.Path.{_≡_, refl, sym, _∙_}
-use lib.ListN.{length}
-use native.Mathlib.Omega.{arith}
-use borrow.Author.Needs.{needs}
-use borrow.Author.Tests.{eq-eqb, ne-eqb}
+use mathlib.Core.Path.{ap, _∙_}
+use Rattle.tape.specs.declared.line.Line.{Line}
 use Rattle.tape.specs.Lines.{lines}
-use Rattle.reading.specs.Finding.{blockAt, findBlock}
-use Rattle.reading.proofs.Searching.{block-end, block-more}
+use Rattle.reading.specs.Finding.{findBlock, blockOfProgram}
+use borrow.Author.Needs.{needs}
 use Rattle.reading.proofs.find.find_block.Statement.{statement}
 use Rattle.reading.proofs.find.find_block.Tie as tie
 
-abbrev Inv-loop : tie.InvT-loop
-Inv-loop tape from number p₀ p = (p ≤ length tape) × (findBlock number (lines tape from) ≡ findBlock number (lines tape p))
+line-at-requires : tie.Need-line-at-requires
+line-at-requires c κs = search needs
 
-abbrev μ-loop : tie.MeasureT-loop
-μ-loop tape from number p₀ p = length tape - p
+block-from-requires : tie.Need-block-from-requires
+block-from-requires c κs = search needs
 
-loop-holds : tie.Need-loop-holds Inv-loop μ-loop
-loop-holds c = (omega arith, refl)
-
-line-at-requires : tie.Need-line-at-requires Inv-loop μ-loop
-line-at-requires c κs = omega arith
-
-sub-head-of : tie.Need-sub-head-of Inv-loop μ-loop
-sub-head-of c = omega (arith, c .line-at .ensures .1)
-
-part-head-of-start : tie.Need-part-head-of-start Inv-loop μ-loop
-part-head-of-start c = omega (arith, c .line-at .ensures .1)
-
-part-head-of-end : tie.Need-part-head-of-end Inv-loop μ-loop
-part-head-of-end c = omega (arith, c .line-at .ensures .1)
-
-head-of-requires : tie.Need-head-of-requires Inv-loop μ-loop
-head-of-requires c κs = search needs
-
--- what is sought from the start, by the head of the line at p
-stepped : (c : tie.After-head-of Inv-loop μ-loop) →
-    let l = c .before .before in
-    let a = l .before .before .before .before .args in
-    findBlock (a .number) (lines (a .tape .now) (a .from))
-    ≡ blockAt (a .number) (c .head-of .result) (l .before .before .loop .p) (findBlock (a .number) (lines (a .tape .now) (l .line-at .result .after)))
-stepped c =
-    let l = c .before .before in
-    let a = l .before .before .before .before .args in
-    let at = l .before .before .loop in
-    at .inv .1 ∙ block-more (a .number) (a .tape .now) (at .p) (omega arith) (l .line-at .ensures .0) (c .head-of .ensures)
-
--- less of the tape is left behind a line
-onward : (c : tie.After-line-at Inv-loop μ-loop) →
-    let n = length (c .before .before .before .before .args .tape .now) in n - c .line-at .result .after < n - c .before .before .loop .p
-onward c = let l = c .line-at .ensures .1 in omega (arith, l, l .onward (omega arith))
-
-enum-told : tie.Need-enum-told Inv-loop μ-loop
-enum-told c = search needs
-
-enum-known-head : tie.Need-enum-known-head Inv-loop μ-loop
-enum-known-head c = search needs
-
-enum-told-2 : tie.Need-enum-told-2 Inv-loop μ-loop
-enum-told-2 c = search needs
-
-enum-told-3 : tie.Need-enum-told-3 Inv-loop μ-loop
-enum-told-3 c = search needs
-
-loop-less : tie.Need-loop-less Inv-loop μ-loop
-loop-less c = onward (c .before .before .before .before .before .before)
-
-loop-again : tie.Need-loop-again Inv-loop μ-loop
-unfolding blockAt
-loop-again c =
-    let h = c .before .before .before .before in (h .before .before .line-at .ensures .1 .ends, stepped h ∙ rw (c .before .before .head .given .1, ne-eqb _ _ (c .if2 .left)))
-
-loop-less-2 : tie.Need-loop-less-2 Inv-loop μ-loop
-loop-less-2 c = onward (c .before .before .before .before)
-
-loop-again-2 : tie.Need-loop-again-2 Inv-loop μ-loop
-unfolding blockAt
-loop-again-2 c =
-    let h = c .before .before in (h .before .before .line-at .ensures .1 .ends, stepped h ∙ rw (c .enum-told2 .given .1))
-
-loop-less-3 : tie.Need-loop-less-3 Inv-loop μ-loop
-loop-less-3 c = onward (c .before .before .before .before)
-
-loop-again-3 : tie.Need-loop-again-3 Inv-loop μ-loop
-unfolding blockAt
-loop-again-3 c =
-    let h = c .before .before in (h .before .before .line-at .ensures .1 .ends, stepped h ∙ rw (c .enum-told3 .given .1))
-
-returns : tie.Need-returns Inv-loop μ-loop
-returns c = let a = c .before .before .before .args in sym (c .before .loop .inv .1 ∙ block-end (a .number) (a .tape .now) (c .before .loop .p) (c .if1 .taken))
-
-returns-2 : tie.Need-returns-2 Inv-loop μ-loop
-unfolding blockAt
-returns-2 c = sym (stepped (c .before .before) ∙ rw (c .enum-told .given .1))
-
-returns-3 : tie.Need-returns-3 Inv-loop μ-loop
-unfolding blockAt
-returns-3 c = sym (stepped (c .before .before .before .before) ∙ rw (c .before .before .head .given .1, eq-eqb _ _ (c .if2 .taken)))
+returns : tie.Need-returns
+unfolding blockOfProgram
+returns c =
+    let l = c .before in
+    let a = l .before .before .args in
+    c .block-from .ensures ∙ ap (λ (r : Line). findBlock (a .number) (lines (a .tape .now) (r .after))) (l .line-at .ensures .0)
 
 pub find-block-spec : {M : Type 1} → statement M
-find-block-spec =
-    tie.close
-    (tie.spec
-    Inv-loop
-    μ-loop
-    loop-holds
-    line-at-requires
-    sub-head-of
-    part-head-of-start
-    part-head-of-end
-    head-of-requires
-    enum-told
-    enum-known-head
-    enum-told-2
-    enum-told-3
-    loop-less
-    loop-again
-    loop-less-2
-    loop-again-2
-    loop-less-3
-    loop-again-3
-    returns
-    returns-2
-    returns-3)
+find-block-spec = tie.close (tie.spec line-at-requires block-from-requires returns)
