@@ -1,0 +1,3 @@
+-- The laws that the cycles share.
+pub mod Axes
+pub mod Reaching

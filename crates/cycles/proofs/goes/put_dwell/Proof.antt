@@ -1,0 +1,65 @@
+-- `cycles::goes::put_dwell` meets its contract.
+use borrow.Author.Needs.{needs}
+use mathlib.Core.Path.{_∙_}
+use mir.Facts.{toZ-ofZ}
+use Rattle.moves.specs.Form.{recordStart}
+use Rattle.moves.specs.Kinds.{dwell}
+use Rattle.cycles.specs.Goes.{dwellAt}
+use Rattle.cycles.proofs.Axes.{picked-laid}
+use Rattle.cycles.proofs.goes.put_dwell.Statement.{statement}
+use Rattle.cycles.proofs.goes.put_dwell.Tie as tie
+
+dwell-requires : tie.Need-dwell-requires
+dwell-requires c κs = search needs
+
+write-record-requires : tie.Need-write-record-requires
+write-record-requires c κs = search needs
+
+same-length : tie.Need-same-length
+same-length c = search needs
+
+returns : tie.Need-returns
+unfolding dwellAt
+returns c =
+    let w = c .before .before in
+    let r = w .before in
+    let s = r .before .before .before .before in
+    let facing = dwell (s .args .across) (s .args .inward) (s .args .tenths) in
+    let turning = dwell (s .args .inward) (s .args .across) (s .args .tenths) in
+    picked-laid (s .args .buf .now) (recordStart (s .args .k)) facing turning (r .before .before .if1 .taken)
+    (r .dwell .ensures ∙ λ i. dwell (toZ-ofZ (s .fits .across) i) (toZ-ofZ (s .fits .inward) i) (s .args .tenths))
+    (w .write-record .ensures)
+
+dwell-requires-2 : tie.Need-dwell-requires-2
+dwell-requires-2 c κs = search needs
+
+write-record-requires-2 : tie.Need-write-record-requires-2
+write-record-requires-2 c κs = search needs
+
+same-length-2 : tie.Need-same-length-2
+same-length-2 c = search needs
+
+returns-2 : tie.Need-returns-2
+unfolding dwellAt
+returns-2 c =
+    let w = c .before .before in
+    let r = w .before in
+    let s = r .before .before .before .before in
+    let facing = dwell (s .args .across) (s .args .inward) (s .args .tenths) in
+    let turning = dwell (s .args .inward) (s .args .across) (s .args .tenths) in
+    picked-laid (s .args .buf .now) (recordStart (s .args .k)) facing turning (r .before .before .if1 .left)
+    (r .dwell2 .ensures ∙ λ i. dwell (toZ-ofZ (s .fits .inward) i) (toZ-ofZ (s .fits .across) i) (s .args .tenths))
+    (w .write-record2 .ensures)
+
+pub put-dwell-spec : {M : Type 1} → statement M
+put-dwell-spec =
+    tie.close
+    (tie.spec
+    dwell-requires
+    write-record-requires
+    same-length
+    returns
+    dwell-requires-2
+    write-record-requires-2
+    same-length-2
+    returns-2)
