@@ -1,0 +1,89 @@
+-- How many records a turning cycle has, and that their numbers fit.
+-- Assumes nothing.
+use mathlib.Core.Path.{_≡_, refl, sym, ap, _∙_, subst}
+use mathlib.Core.Bool.{Bool, true, false}
+use mathlib.Core.List.{List, [], _∷_, _++_}
+use Prim.Native.Nat.{ℕ, _+_, _*_, _<_, _≤_, _^_}
+use native.Mathlib.Omega.{arith}
+use lib.IntN.{ℤ, _+ℤ_}
+use lib.ListN.{length, length-append}
+use mir.Syntax.{w32}
+use mir.Val.{SFits}
+use Rattle.whole.specs.declared.signed.Side.{Side}
+use Rattle.whole.specs.Signed.{along}
+use Rattle.whole.specs.Division.{sum}
+use Rattle.whole.proofs.Sides.{along-add, along-zero}
+use Rattle.whole.proofs.Divisions.{pieces-length, pieces-sum}
+use Rattle.moves.specs.Form.{Fitting, AllFitting}
+use Rattle.cycles.specs.declared.axis.Axis.{Axis}
+use Rattle.cycles.specs.Axis.{side, net, allowanceLine}
+use Rattle.cycles.specs.Goes.{rapidTo, feedTo}
+use Rattle.cycles.proofs.Axes.{line-net, line-fits}
+use Rattle.turning.specs.declared.cycle.Cycle.{Cycle}
+use Rattle.turning.specs.declared.passes.Pass.{Pass}
+use Rattle.turning.specs.Turning.{passCount, row, passFor, passOn, passes, turning, recordCount}
+use Rattle.turning.proofs.Turned.{some-passes}
+
+-- ---- how many
+pub pass-length : (p : Pass) (l : ℤ) → length (passOn p l) ≡ 4
+unfolding passOn
+pass-length p l = refl
+
+passes-length : (p : Pass) (s : Side) (l : ℤ) (ds : List ℕ) → length (passes (passOn p) s l ds) ≡ 4 * length ds
+unfolding passes
+passes-length p s l [] = refl
+passes-length p s l (d ∷ ds) =
+    let k : ℤ = l +ℤ along s d in
+    length-append (passOn p k) (passes (passOn p) s k ds) ∙ omega (arith, pass-length p k, passes-length p s k ds)
+
+pub turning-length : (c : Cycle) → 0 < net (c .infeed) → length (turning c) ≡ recordCount c
+unfolding turning recordCount
+turning-length c h =
+    let e : ℕ = net (c .infeed) in
+    passes-length (passFor c) (side (c .infeed)) (c .infeed .start) (row c)
+    ∙ ap (λ (n : ℕ). 4 * n) (pieces-length e (passCount e (c .division)) (some-passes e (c .division) h))
+
+-- ---- their numbers
+-- an axis whose places fit, as those of every axis of the code do by their types
+pub record Stands (a : Axis) : Type 0 where
+  pub start : SFits w32 (a .start)
+  pub target : SFits w32 (a .target)
+
+rapid-fitting : (facing : Bool) {i a : ℤ} → SFits w32 i → SFits w32 a → Fitting (rapidTo facing i a)
+unfolding rapidTo
+rapid-fitting true h g = record { kind = omega arith; flags = omega arith; x = g; z = h; value = omega arith }
+rapid-fitting false h g = record { kind = omega arith; flags = omega arith; x = h; z = g; value = omega arith }
+
+feed-fitting : (facing : Bool) (f : ℕ) (g95 : Bool) {i a : ℤ} → f < 2 ^ 32 → SFits w32 i → SFits w32 a → Fitting (feedTo facing f g95 i a)
+unfolding feedTo
+feed-fitting true f true v h g = record { kind = omega arith; flags = omega arith; x = g; z = h; value = v }
+feed-fitting true f false v h g = record { kind = omega arith; flags = omega arith; x = g; z = h; value = v }
+feed-fitting false f true v h g = record { kind = omega arith; flags = omega arith; x = h; z = g; value = v }
+feed-fitting false f false v h g = record { kind = omega arith; flags = omega arith; x = h; z = g; value = v }
+
+pub turning-fitting : (c : Cycle) → Stands (c .infeed) → Stands (c .path) → c .f < 2 ^ 32 → 0 < net (c .infeed) → 0 < net (c .path) → AllFitting (turning c)
+unfolding turning passes passOn
+turning-fitting c i p v h g =
+    subst (λ (l : ℤ). AllFitting (passes (passOn (passFor c)) (side a) l (row c))) (along-zero (a .start) (side a))
+    (go 0 (row c) (omega (arith, pieces-sum (net a) (passCount (net a) (c .division)) (some-passes (net a) (c .division) h))))
+  where
+    a : Axis
+    a = c .infeed
+
+    b : Bool
+    b = c .facing
+
+    end : SFits w32 (allowanceLine (c .path))
+    end = subst (SFits w32) (line-net (c .path) (omega arith)) (line-fits (c .path) (p .start) (p .target) (net (c .path)) (omega arith))
+
+    go : (m : ℕ) (ds : List ℕ) → m + sum ds ≤ net a → AllFitting (passes (passOn (passFor c)) (side a) (a .start +ℤ along (side a) m) ds)
+    go m [] e = tt
+    go m (d ∷ ds) e =
+        let l : SFits w32 (a .start +ℤ along (side a) (m + d)) = line-fits a (i .start) (i .target) (m + d) (omega arith) in
+        subst (λ (l : ℤ). AllFitting (passOn (passFor c) l ++ passes (passOn (passFor c)) (side a) l ds)) (sym (along-add (a .start) (side a) m d)) (
+          rapid-fitting b l (p .start),
+          (
+            feed-fitting b (c .f) (c .g95) v l end,
+            (feed-fitting b (c .f) (c .g95) v (i .start) end, (rapid-fitting b (i .start) (p .start), go (m + d) ds (omega arith))),
+          ),
+        )

@@ -1,0 +1,101 @@
+-- 01's own examples of G84, computed from the definitions.
+-- Assumes nothing.
+use mathlib.Core.Path.{_≡_, refl}
+use mathlib.Core.Bool.{true, false}
+use mathlib.Core.List.{[], _∷_}
+use Prim.Native.Nat.{ℕ}
+use lib.IntN.{pos, negsuc}
+use Rattle.whole.specs.Division.{count, pieces}
+use Rattle.moves.specs.Kinds.{rapid, feed}
+use Rattle.cycles.specs.Goes.{rapidTo, feedTo}
+use Rattle.turning.specs.declared.cycle.Cycle.{Cycle}
+use Rattle.turning.specs.Turning.{tooShort, passCount, row, passOn, passes, turning, recordCount}
+
+-- block N20 of the listing, `G84 X30. Z-20. D0=400 D2=100 D3=2500 F120` from X40. Z2.
+abbrev pub listed : Cycle
+listed = record {
+  facing = false;
+  infeed = record { start = pos 40000; target = pos 30000; allowance = 400 };
+  path = record { start = pos 2000; target = negsuc 19999; allowance = 100 };
+  division = 5000;
+  f = 120;
+  g95 = true;
+}
+
+pub listed-records : turning listed ≡
+    rapid (pos 35200) (pos 2000)
+    ∷ feed (pos 35200) (negsuc 19899) 120 true
+    ∷ feed (pos 40000) (negsuc 19899) 120 true
+    ∷ rapid (pos 40000) (pos 2000)
+    ∷ rapid (pos 30400) (pos 2000)
+    ∷ feed (pos 30400) (negsuc 19899) 120 true
+    ∷ feed (pos 40000) (negsuc 19899) 120 true
+    ∷ rapid (pos 40000) (pos 2000)
+    ∷ []
+unfolding count pieces rapidTo feedTo passCount passOn passes turning
+listed-records = refl
+
+pub listed-count : recordCount listed ≡ 8
+unfolding count passCount recordCount
+listed-count = refl
+
+-- facing, the axes are exchanged: `G84 Z-5. X20. D0=400 D2=99 D3=3500` under G94, from X40. Z2. The infeed is 7,000 less 99, the division D3 itself
+abbrev pub faced : Cycle
+faced = record {
+  facing = true;
+  infeed = record { start = pos 2000; target = negsuc 4999; allowance = 99 };
+  path = record { start = pos 40000; target = pos 20000; allowance = 400 };
+  division = 3500;
+  f = 120;
+  g95 = false;
+}
+
+pub faced-records : turning faced ≡
+    rapid (pos 40000) (negsuc 1450)
+    ∷ feed (pos 20400) (negsuc 1450) 120 false
+    ∷ feed (pos 20400) (pos 2000) 120 false
+    ∷ rapid (pos 40000) (pos 2000)
+    ∷ rapid (pos 40000) (negsuc 4900)
+    ∷ feed (pos 20400) (negsuc 4900) 120 false
+    ∷ feed (pos 20400) (pos 2000) 120 false
+    ∷ rapid (pos 40000) (pos 2000)
+    ∷ []
+unfolding count pieces rapidTo feedTo passCount passOn passes turning
+faced-records = refl
+
+-- "P9: G84 X distance 400, D0 400: alarm 19; D0 399: one step of 1."
+abbrev pub shallow : ℕ → ℕ → Cycle
+shallow allowance division = record {
+  facing = false;
+  infeed = record { start = pos 40000; target = pos 39600; allowance = allowance };
+  path = record { start = pos 2000; target = negsuc 19999; allowance = 0 };
+  division = division;
+  f = 120;
+  g95 = true;
+}
+
+pub p9-refused : tooShort (shallow 400 5000) ≡ true
+unfolding tooShort
+p9-refused = refl
+
+pub p9-taken : tooShort (shallow 399 5000) ≡ false
+unfolding tooShort
+p9-taken = refl
+
+pub p9-row : row (shallow 399 5000) ≡ 1 ∷ []
+unfolding count pieces passCount
+p9-row = refl
+
+-- without a D3 too
+pub p9-row-undivided : row (shallow 399 0) ≡ 1 ∷ []
+unfolding count pieces passCount
+p9-row-undivided = refl
+
+pub p9-records : turning (shallow 399 5000) ≡
+    rapid (pos 39999) (pos 2000)
+    ∷ feed (pos 39999) (negsuc 19999) 120 true
+    ∷ feed (pos 40000) (negsuc 19999) 120 true
+    ∷ rapid (pos 40000) (pos 2000)
+    ∷ []
+unfolding count pieces rapidTo feedTo passCount passOn passes turning
+p9-records = refl

@@ -1,0 +1,7 @@
+-- The laws of the turning cycle.
+pub mod Examples
+pub mod Turned
+pub mod RuledOut
+pub mod Reach
+pub mod Counts
+pub mod Writing
