@@ -1,12 +1,12 @@
 -- Laws of the tests that the word rules are made of.
 -- Assumes nothing.
-use mathlib.Core.Path.{_≡_, refl, sym, ap, _∙_}
-use mathlib.Core.Bool.{Bool, true, false, not, _||_}
+use mathlib.Core.Path.{_≡_, refl, sym, ap, _∙_, subst}
+use mathlib.Core.Bool.{Bool, true, false, not, _&&_, _||_}
 use mathlib.Core.List.{List, [], _∷_}
 use Prim.Native.Nat.{ℕ, zero, suc, _+_, _-_, _≤_, _<_}
 use native.Mathlib.Numerals.{add-one}
 use native.Mathlib.Omega.{arith}
-use lib.Dec.{eqb}
+use lib.Dec.{T, eqb}
 use lib.ListN.{getD, take, drop}
 use borrow.Author.Tests.{eq-eqb, ne-eqb}
 use Rattle.block.specs.declared.words.Block.{Block}
@@ -42,3 +42,12 @@ module _ (b : Block) (k to : ℕ) where
       let e : to - k ≡ suc (to - (k + 1)) = omega arith in
       ap (λ (n : ℕ). anyPlace (take n (drop k (b .place)))) e ∙ place-not (b .place) k (to - (k + 1)) h
       ∙ ap (λ (n : ℕ). anyPlace (take (to - (k + 1)) (drop n (b .place)))) (sym (add-one k))
+
+-- a rule of two tests, of which the second is asked only where the first holds; u is the first as the code has it
+pub first-fails : (t u x : Bool) → u ≡ t → not u ≡ true → false ≡ (t && x)
+first-fails t true x e f = absurd (subst T (sym f) tt)
+first-fails t false x e f = ap (λ (b : Bool). b && x) e
+
+pub second-tells : (t u x y : Bool) → u ≡ t → not u ≡ false → y ≡ x → y ≡ (t && x)
+second-tells t true x y e f g = g ∙ ap (λ (b : Bool). b && x) e
+second-tells t false x y e f g = absurd (subst T f tt)

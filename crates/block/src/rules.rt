@@ -81,7 +81,10 @@ fn l_word_wrong(b: Block) -> bool
 fn more_than_l(b: Block) -> bool
     ensures { λ r. ⌜ r ≡ moreThanL b ⌝ }
 {
-    calls_or_jumps(b) & any(b, 0, crate::words::L)
+    if !calls_or_jumps(b) {
+        return false;
+    }
+    any(b, 0, crate::words::L)
 }
 
 // "no G04 with G25 or G27"
@@ -95,7 +98,10 @@ fn dwell_with_call(b: Block) -> bool
 fn dwell_with_path(b: Block) -> bool
     ensures { λ r. ⌜ r ≡ dwellWithPath b ⌝ }
 {
-    group_zero_is(b, 4) & any(b, 0, 4)
+    if !group_zero_is(b, 4) {
+        return false;
+    }
+    any(b, 0, 4)
 }
 
 // "D4 stands with G04 ..; D0 D2 D3 with G84; D3 D4 D5 with G86; no other P or D"
