@@ -1,6 +1,6 @@
 -- 01: "G groups (001): 0 is 00 01 33 (kept) and 04 84 86 (that block only; the kept one stays); 1 is 96 97; 2 is 94 95; 3 is 53 54 55; 5 is 56 to 59; 6 is
 -- 25 27; 7 is 71. M groups: 0 is 03 04 05; 3 is 08 09; 2 is 00 17 30." "G54 and G55 call shifts 1 and 2, G57 to G59 shifts 3 to 5 (001); G53 and G56 cancel."
-use mathlib.Core.Bool.{Bool, cond, _&&_}
+use mathlib.Core.Bool.{Bool, true, false, cond, _&&_}
 use mathlib.Core.List.{List, [], _∷_}
 use Prim.Native.Nat.{ℕ, _-_}
 use lib.Dec.{leb}
@@ -8,6 +8,8 @@ use Rattle.block.specs.declared.codes.Code.{Code}
 use Rattle.block.specs.declared.codes.Code.the-variants.{Of, Unknown}
 use Rattle.block.specs.declared.codes.Meaning.{Meaning}
 use Rattle.block.specs.declared.codes.Meaning.the-variants as means
+use Rattle.block.specs.declared.codes.Motion.the-variants as motion
+use Rattle.block.specs.declared.codes.Flow.the-variants as flow
 
 -- the numbers from low to high are of a group, with a meaning
 pub record Row : Type 0 where
@@ -29,16 +31,16 @@ look (r ∷ rs) n = cond (leb (r .low) n && leb n (r .high)) (Of (r .group) (r .
 
 abbrev pub gRows : List Row
 gRows =
-    one 0 0 means.Rapid
-    ∷ one 1 0 means.Feed
-    ∷ one 33 0 means.Thread
-    ∷ one 4 0 means.Dwell
-    ∷ one 84 0 means.Turning
-    ∷ one 86 0 means.Grooving
-    ∷ one 96 1 means.CuttingSpeed
-    ∷ one 97 1 means.SpindleSpeed
-    ∷ one 94 2 means.FeedByMinute
-    ∷ one 95 2 means.FeedByRevolution
+    one 0 0 (means.Moves motion.Rapid)
+    ∷ one 1 0 (means.Moves motion.Feed)
+    ∷ one 33 0 (means.Moves motion.Thread)
+    ∷ one 4 0 (means.Moves motion.Dwell)
+    ∷ one 84 0 (means.Moves motion.Turning)
+    ∷ one 86 0 (means.Moves motion.Grooving)
+    ∷ one 96 1 (means.Cutting true)
+    ∷ one 97 1 (means.Cutting false)
+    ∷ one 94 2 (means.Revolution false)
+    ∷ one 95 2 (means.Revolution true)
     ∷ range 53 55 3 (λ n. means.Shift (n - 53))
     ∷ one 56 5 (means.Shift 0)
     ∷ range 57 59 5 (λ n. means.Shift (n - 54))
@@ -49,14 +51,14 @@ gRows =
 
 abbrev pub mRows : List Row
 mRows =
-    one 3 0 means.SpindleRight
-    ∷ one 4 0 means.SpindleLeft
-    ∷ one 5 0 means.SpindleOff
-    ∷ one 8 3 means.CoolantOn
-    ∷ one 9 3 means.CoolantOff
-    ∷ one 0 2 means.Stop
-    ∷ one 17 2 means.Return
-    ∷ one 30 2 means.End
+    one 3 0 means.Spindle
+    ∷ one 4 0 means.Spindle
+    ∷ one 5 0 means.Spindle
+    ∷ one 8 3 means.Coolant
+    ∷ one 9 3 means.Coolant
+    ∷ one 0 2 (means.Steers flow.Stop)
+    ∷ one 17 2 (means.Steers flow.Return)
+    ∷ one 30 2 (means.Steers flow.End)
     ∷ []
 
 -- the group and the meaning of a G number and of an M number

@@ -3,30 +3,37 @@
 ghost use mathlib.Core.Path.{_≡_};
 ghost use Rattle.block.specs.Codes.{gCode, mCode};
 
-pub enum Meaning {
+// Group 0 of G: the first three are kept, the others hold for their block only.
+pub enum Motion {
     Rapid,
     Feed,
     Thread,
     Dwell,
     Turning,
     Grooving,
-    CuttingSpeed,
-    SpindleSpeed,
-    FeedByMinute,
-    FeedByRevolution,
+}
+
+// Group 2 of M: M00, M17, M30.
+pub enum Flow {
+    Stop,
+    Return,
+    End,
+}
+
+pub enum Meaning {
+    Moves(Motion),
+    // whether the speed is a constant cutting speed
+    Cutting(bool),
+    // whether the feed is by the revolution
+    Revolution(bool),
     // the shift of the table that is called, 0 for none
     Shift(u32),
     Call,
     Jump,
     Metric,
-    SpindleRight,
-    SpindleLeft,
-    SpindleOff,
-    CoolantOn,
-    CoolantOff,
-    Stop,
-    Return,
-    End,
+    Spindle,
+    Coolant,
+    Steers(Flow),
 }
 
 // The group of a number and its meaning.
@@ -39,19 +46,25 @@ pub fn g_code(n: u32) -> Code
     ensures { λ r. ⌜ r ≡ gCode n ⌝ }
 {
     match n {
-        0 => Code::Of(0, Meaning::Rapid),
-        1 => Code::Of(0, Meaning::Feed),
-        33 => Code::Of(0, Meaning::Thread),
-        4 => Code::Of(0, Meaning::Dwell),
-        84 => Code::Of(0, Meaning::Turning),
-        86 => Code::Of(0, Meaning::Grooving),
-        96 => Code::Of(1, Meaning::CuttingSpeed),
-        97 => Code::Of(1, Meaning::SpindleSpeed),
-        94 => Code::Of(2, Meaning::FeedByMinute),
-        95 => Code::Of(2, Meaning::FeedByRevolution),
-        53..=55 => Code::Of(3, Meaning::Shift(n - 53)),
+        0 => Code::Of(0, Meaning::Moves(Motion::Rapid)),
+        1 => Code::Of(0, Meaning::Moves(Motion::Feed)),
+        33 => Code::Of(0, Meaning::Moves(Motion::Thread)),
+        4 => Code::Of(0, Meaning::Moves(Motion::Dwell)),
+        84 => Code::Of(0, Meaning::Moves(Motion::Turning)),
+        86 => Code::Of(0, Meaning::Moves(Motion::Grooving)),
+        96 => Code::Of(1, Meaning::Cutting(true)),
+        97 => Code::Of(1, Meaning::Cutting(false)),
+        94 => Code::Of(2, Meaning::Revolution(false)),
+        95 => Code::Of(2, Meaning::Revolution(true)),
+        53..=55 => {
+            let first = n - 53;
+            Code::Of(3, Meaning::Shift(first))
+        }
         56 => Code::Of(5, Meaning::Shift(0)),
-        57..=59 => Code::Of(5, Meaning::Shift(n - 54)),
+        57..=59 => {
+            let second = n - 54;
+            Code::Of(5, Meaning::Shift(second))
+        }
         25 => Code::Of(6, Meaning::Call),
         27 => Code::Of(6, Meaning::Jump),
         71 => Code::Of(7, Meaning::Metric),
@@ -63,14 +76,14 @@ pub fn m_code(n: u32) -> Code
     ensures { λ r. ⌜ r ≡ mCode n ⌝ }
 {
     match n {
-        3 => Code::Of(0, Meaning::SpindleRight),
-        4 => Code::Of(0, Meaning::SpindleLeft),
-        5 => Code::Of(0, Meaning::SpindleOff),
-        8 => Code::Of(3, Meaning::CoolantOn),
-        9 => Code::Of(3, Meaning::CoolantOff),
-        0 => Code::Of(2, Meaning::Stop),
-        17 => Code::Of(2, Meaning::Return),
-        30 => Code::Of(2, Meaning::End),
+        3 => Code::Of(0, Meaning::Spindle),
+        4 => Code::Of(0, Meaning::Spindle),
+        5 => Code::Of(0, Meaning::Spindle),
+        8 => Code::Of(3, Meaning::Coolant),
+        9 => Code::Of(3, Meaning::Coolant),
+        0 => Code::Of(2, Meaning::Steers(Flow::Stop)),
+        17 => Code::Of(2, Meaning::Steers(Flow::Return)),
+        30 => Code::Of(2, Meaning::Steers(Flow::End)),
         _ => Code::Unknown,
     }
 }

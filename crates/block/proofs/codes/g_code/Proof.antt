@@ -6,8 +6,8 @@ use borrow.Author.Needs.{needs}
 use Rattle.block.proofs.codes.g_code.Statement.{statement}
 use Rattle.block.proofs.codes.g_code.Tie as tie
 
-sub-t20 : tie.Need-sub-t20
-sub-t20 c = search needs
+sub-second : tie.Need-sub-second
+sub-second c = search needs
 
 returns : tie.Need-returns
 unfolding gCode
@@ -81,7 +81,7 @@ pub g-code-spec : {M : Type 1} → statement M
 g-code-spec =
     tie.close
     (tie.spec
-    sub-t20
+    sub-second
     returns
     returns-2
     returns-3
