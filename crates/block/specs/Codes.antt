@@ -1,6 +1,6 @@
 -- 01: "G groups (001): 0 is 00 01 33 (kept) and 04 84 86 (that block only; the kept one stays); 1 is 96 97; 2 is 94 95; 3 is 53 54 55; 5 is 56 to 59; 6 is
 -- 25 27; 7 is 71. M groups: 0 is 03 04 05; 3 is 08 09; 2 is 00 17 30." "G54 and G55 call shifts 1 and 2, G57 to G59 shifts 3 to 5 (001); G53 and G56 cancel."
-use mathlib.Core.Bool.{Bool, true, false, cond, _&&_}
+use mathlib.Core.Bool.{cond, _&&_}
 use mathlib.Core.List.{List, [], _∷_}
 use Prim.Native.Nat.{ℕ, _-_}
 use lib.Dec.{leb}
@@ -37,25 +37,25 @@ gRows =
     ∷ one 4 0 (means.Moves motion.Dwell)
     ∷ one 84 0 (means.Moves motion.Turning)
     ∷ one 86 0 (means.Moves motion.Grooving)
-    ∷ one 96 1 (means.Cutting true)
-    ∷ one 97 1 (means.Cutting false)
-    ∷ one 94 2 (means.Revolution false)
-    ∷ one 95 2 (means.Revolution true)
+    ∷ one 96 1 means.Plain
+    ∷ one 97 1 means.Plain
+    ∷ one 94 2 means.Plain
+    ∷ one 95 2 means.Plain
     ∷ range 53 55 3 (λ n. means.Shift (n - 53))
     ∷ one 56 5 (means.Shift 0)
     ∷ range 57 59 5 (λ n. means.Shift (n - 54))
-    ∷ one 25 6 means.Call
-    ∷ one 27 6 means.Jump
-    ∷ one 71 7 means.Metric
+    ∷ one 25 6 means.Plain
+    ∷ one 27 6 means.Plain
+    ∷ one 71 7 means.Plain
     ∷ []
 
 abbrev pub mRows : List Row
 mRows =
-    one 3 0 means.Spindle
-    ∷ one 4 0 means.Spindle
-    ∷ one 5 0 means.Spindle
-    ∷ one 8 3 means.Coolant
-    ∷ one 9 3 means.Coolant
+    one 3 0 means.Plain
+    ∷ one 4 0 means.Plain
+    ∷ one 5 0 means.Plain
+    ∷ one 8 3 means.Plain
+    ∷ one 9 3 means.Plain
     ∷ one 0 2 (means.Steers flow.Stop)
     ∷ one 17 2 (means.Steers flow.Return)
     ∷ one 30 2 (means.Steers flow.End)

@@ -20,20 +20,13 @@ pub enum Flow {
     End,
 }
 
+// What a number says beside its group. What is plain is told by the number itself.
 pub enum Meaning {
     Moves(Motion),
-    // whether the speed is a constant cutting speed
-    Cutting(bool),
-    // whether the feed is by the revolution
-    Revolution(bool),
     // the shift of the table that is called, 0 for none
     Shift(u32),
-    Call,
-    Jump,
-    Metric,
-    Spindle,
-    Coolant,
     Steers(Flow),
+    Plain,
 }
 
 // The group of a number and its meaning.
@@ -52,10 +45,10 @@ pub fn g_code(n: u32) -> Code
         4 => Code::Of(0, Meaning::Moves(Motion::Dwell)),
         84 => Code::Of(0, Meaning::Moves(Motion::Turning)),
         86 => Code::Of(0, Meaning::Moves(Motion::Grooving)),
-        96 => Code::Of(1, Meaning::Cutting(true)),
-        97 => Code::Of(1, Meaning::Cutting(false)),
-        94 => Code::Of(2, Meaning::Revolution(false)),
-        95 => Code::Of(2, Meaning::Revolution(true)),
+        96 => Code::Of(1, Meaning::Plain),
+        97 => Code::Of(1, Meaning::Plain),
+        94 => Code::Of(2, Meaning::Plain),
+        95 => Code::Of(2, Meaning::Plain),
         53..=55 => {
             let first = n - 53;
             Code::Of(3, Meaning::Shift(first))
@@ -65,9 +58,9 @@ pub fn g_code(n: u32) -> Code
             let second = n - 54;
             Code::Of(5, Meaning::Shift(second))
         }
-        25 => Code::Of(6, Meaning::Call),
-        27 => Code::Of(6, Meaning::Jump),
-        71 => Code::Of(7, Meaning::Metric),
+        25 => Code::Of(6, Meaning::Plain),
+        27 => Code::Of(6, Meaning::Plain),
+        71 => Code::Of(7, Meaning::Plain),
         _ => Code::Unknown,
     }
 }
@@ -76,11 +69,11 @@ pub fn m_code(n: u32) -> Code
     ensures { λ r. ⌜ r ≡ mCode n ⌝ }
 {
     match n {
-        3 => Code::Of(0, Meaning::Spindle),
-        4 => Code::Of(0, Meaning::Spindle),
-        5 => Code::Of(0, Meaning::Spindle),
-        8 => Code::Of(3, Meaning::Coolant),
-        9 => Code::Of(3, Meaning::Coolant),
+        3 => Code::Of(0, Meaning::Plain),
+        4 => Code::Of(0, Meaning::Plain),
+        5 => Code::Of(0, Meaning::Plain),
+        8 => Code::Of(3, Meaning::Plain),
+        9 => Code::Of(3, Meaning::Plain),
         0 => Code::Of(2, Meaning::Steers(Flow::Stop)),
         17 => Code::Of(2, Meaning::Steers(Flow::Return)),
         30 => Code::Of(2, Meaning::Steers(Flow::End)),
