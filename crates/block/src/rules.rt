@@ -19,7 +19,7 @@ pub struct Judged {
 }
 
 // Whether a word applies in a slot.
-fn has(b: Block, k: usize) -> bool
+pub fn has(b: Block, k: usize) -> bool
     requires { ⌜ k < 40 ⌝ }
     ensures { λ r. ⌜ r ≡ has b k ⌝ }
 {
