@@ -1,3 +1,4 @@
 -- The laws of the form of the list.
 pub mod Writing
 pub mod OneReading
+pub mod Rows

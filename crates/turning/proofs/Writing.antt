@@ -19,6 +19,7 @@ use Rattle.whole.proofs.Divisions.{pieces-length, line-first, line-next, line-w
 use Rattle.whole.proofs.Laying.{laid-nil, laid-on, length-laid}
 use Rattle.moves.specs.declared.record.Record.{Record}
 use Rattle.moves.specs.Form.{recordStart, recordBytes, rowBytes}
+use Rattle.moves.proofs.Rows.{row-on, row-one}
 use Rattle.moves.proofs.OneReading.{length-row, row-append}
 use Rattle.cycles.specs.Axis.{side, net, allowanceLine}
 use Rattle.cycles.specs.Goes.{rapidTo, feedTo}
@@ -26,16 +27,6 @@ use Rattle.turning.specs.declared.cycle.Cycle.{Cycle}
 use Rattle.turning.specs.declared.passes.Pass.{Pass}
 use Rattle.turning.specs.Turning.{passCount, passOn, passes, turning}
 use Rattle.turning.proofs.Counts.{pass-length}
-
--- ---- records laid where others end are laid with them
-pub row-on : (b : List ℕ) (k : ℕ) (v w : List Record) (n : ℕ) → k + length v ≡ n → recordStart n ≤ length b
-    → laid (laid b (recordStart k) (rowBytes v)) (recordStart n) (rowBytes w) ≡ laid b (recordStart k) (rowBytes (v ++ w))
-row-on b k v w n e h =
-    laid-on b (recordStart k) (rowBytes v) (rowBytes w) (recordStart n) (omega (arith, e, length-row v)) h ∙ ap (laid b (recordStart k)) (sym (row-append v w))
-
-row-one : (r : Record) → recordBytes r ≡ rowBytes (r ∷ [])
-unfolding rowBytes
-row-one r = sym (append-nil (recordBytes r))
 
 -- the four records of a pass, one after the other; its places as the code holds them
 pub pass-laid : (p : Pass) (l : ℤ) (b : List ℕ) (k : ℕ) → recordStart (k + 4) ≤ length b
