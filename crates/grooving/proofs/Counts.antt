@@ -17,6 +17,7 @@ use Rattle.whole.proofs.Sides.{toward}
 use Rattle.moves.specs.declared.record.Record.{Record}
 use Rattle.moves.specs.Form.{Fitting, AllFitting}
 use Rattle.cycles.specs.Goes.{rapidTo, feedTo, dwellAt}
+use Rattle.cycles.proofs.Fitting.{rapid-fitting, feed-fitting, dwell-fitting}
 use Rattle.grooving.specs.declared.groove.Way.{Way}
 use Rattle.grooving.specs.declared.groove.Groove.{Groove}
 use Rattle.grooving.specs.Grooving.{lengthOf, wrong, rest, stepCount, steps, cuts, outTo, deepAt, cutting, dwelling, plunge, plunges, afterFirst, grooving, plungeCount, recordCount}
@@ -76,23 +77,6 @@ grooving-length g q =
 pub record Stands (a : Way) : Type 0 where
   pub start : SFits w32 (a .start)
   pub target : SFits w32 (a .target)
-
-rapid-fitting : (facing : Bool) {i a : ℤ} → SFits w32 i → SFits w32 a → Fitting (rapidTo facing i a)
-unfolding rapidTo
-rapid-fitting true h g = record { kind = omega arith; flags = omega arith; x = g; z = h; value = omega arith }
-rapid-fitting false h g = record { kind = omega arith; flags = omega arith; x = h; z = g; value = omega arith }
-
-feed-fitting : (facing : Bool) (f : ℕ) (g95 : Bool) {i a : ℤ} → f < 2 ^ 32 → SFits w32 i → SFits w32 a → Fitting (feedTo facing f g95 i a)
-unfolding feedTo
-feed-fitting true f true v h g = record { kind = omega arith; flags = omega arith; x = g; z = h; value = v }
-feed-fitting true f false v h g = record { kind = omega arith; flags = omega arith; x = g; z = h; value = v }
-feed-fitting false f true v h g = record { kind = omega arith; flags = omega arith; x = h; z = g; value = v }
-feed-fitting false f false v h g = record { kind = omega arith; flags = omega arith; x = h; z = g; value = v }
-
-dwell-fitting : (facing : Bool) (t : ℕ) {i a : ℤ} → t < 2 ^ 32 → SFits w32 i → SFits w32 a → Fitting (dwellAt facing t i a)
-unfolding dwellAt
-dwell-fitting true t v h g = record { kind = omega arith; flags = omega arith; x = g; z = h; value = v }
-dwell-fitting false t v h g = record { kind = omega arith; flags = omega arith; x = h; z = g; value = v }
 
 all-fitting : (rs : List Record) → Every Fitting rs → AllFitting rs
 all-fitting [] e = tt

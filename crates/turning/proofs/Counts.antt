@@ -18,6 +18,7 @@ use Rattle.moves.specs.Form.{Fitting, AllFitting}
 use Rattle.cycles.specs.declared.axis.Axis.{Axis}
 use Rattle.cycles.specs.Axis.{side, net, allowanceLine}
 use Rattle.cycles.specs.Goes.{rapidTo, feedTo}
+use Rattle.cycles.proofs.Fitting.{rapid-fitting, feed-fitting}
 use Rattle.cycles.proofs.Axes.{line-net, line-fits}
 use Rattle.turning.specs.declared.cycle.Cycle.{Cycle}
 use Rattle.turning.specs.declared.passes.Pass.{Pass}
@@ -48,18 +49,6 @@ turning-length c h =
 pub record Stands (a : Axis) : Type 0 where
   pub start : SFits w32 (a .start)
   pub target : SFits w32 (a .target)
-
-rapid-fitting : (facing : Bool) {i a : ℤ} → SFits w32 i → SFits w32 a → Fitting (rapidTo facing i a)
-unfolding rapidTo
-rapid-fitting true h g = record { kind = omega arith; flags = omega arith; x = g; z = h; value = omega arith }
-rapid-fitting false h g = record { kind = omega arith; flags = omega arith; x = h; z = g; value = omega arith }
-
-feed-fitting : (facing : Bool) (f : ℕ) (g95 : Bool) {i a : ℤ} → f < 2 ^ 32 → SFits w32 i → SFits w32 a → Fitting (feedTo facing f g95 i a)
-unfolding feedTo
-feed-fitting true f true v h g = record { kind = omega arith; flags = omega arith; x = g; z = h; value = v }
-feed-fitting true f false v h g = record { kind = omega arith; flags = omega arith; x = g; z = h; value = v }
-feed-fitting false f true v h g = record { kind = omega arith; flags = omega arith; x = h; z = g; value = v }
-feed-fitting false f false v h g = record { kind = omega arith; flags = omega arith; x = h; z = g; value = v }
 
 pub turning-fitting : (c : Cycle) → Stands (c .infeed) → Stands (c .path) → c .f < 2 ^ 32 → 0 < net (c .infeed) → 0 < net (c .path) → AllFitting (turning c)
 unfolding turning passes passOn

@@ -23,55 +23,11 @@ use Rattle.cycles.specs.Goes.{rapidTo, feedTo}
 use Rattle.cycles.specs.Limits.{outsideSpan, outside, outsideTo, anyOutside}
 use Rattle.cycles.proofs.Axes.{line-net}
 use Rattle.cycles.proofs.Reaching.{span-between}
+use Rattle.cycles.proofs.Places.{alike, neither, both, inSpan, acrossSpan, Within, within, not-outside, rapid-ends, feed-ends}
 use Rattle.turning.specs.declared.cycle.Cycle.{Cycle}
 use Rattle.turning.specs.declared.passes.Pass.{Pass}
 use Rattle.turning.specs.Turning.{passCount, row, passFor, passOn, passes, turning}
 use Rattle.turning.proofs.Turned.{some-passes}
-
--- ---- tests
-alike : (a b : Bool) → (a ≡ false → b ≡ false) → (b ≡ false → a ≡ false) → a ≡ b
-alike true true f g = refl
-alike true false f g = g refl
-alike false true f g = sym (f refl)
-alike false false f g = refl
-
-neither : (a b : Bool) → (a || b) ≡ false → (a ≡ false) × (b ≡ false)
-neither true b e = absurd (subst T e tt)
-neither false b e = (refl, e)
-
-both : (a b : Bool) → a ≡ false → b ≡ false → (a || b) ≡ false
-both a b e f = ap (λ (t : Bool). t || b) e ∙ f
-
--- ---- one place, named by the axis that goes in and the one across it
-abbrev inSpan : Limits → Bool → Span
-inSpan l facing = cond facing (l .z) (l .x)
-
-abbrev acrossSpan : Limits → Bool → Span
-acrossSpan l facing = cond facing (l .x) (l .z)
-
-record Within (l : Limits) (facing : Bool) (i a : ℤ) : Type 0 where
-  inward : outsideSpan (inSpan l facing) i ≡ false
-  across : outsideSpan (acrossSpan l facing) a ≡ false
-
-within : (l : Limits) (facing : Bool) (i a : ℤ) → outsideTo l facing i a ≡ false → Within l facing i a
-unfolding outside
-within l true i a e = let n = neither (outsideSpan (l .x) a) (outsideSpan (l .z) i) e in record { inward = n .1; across = n .0 }
-within l false i a e = let n = neither (outsideSpan (l .x) i) (outsideSpan (l .z) a) e in record { inward = n .0; across = n .1 }
-
-not-outside : (l : Limits) (facing : Bool) (i a : ℤ) → Within l facing i a → outsideTo l facing i a ≡ false
-unfolding outside
-not-outside l true i a w = both (outsideSpan (l .x) a) (outsideSpan (l .z) i) (w .across) (w .inward)
-not-outside l false i a w = both (outsideSpan (l .x) i) (outsideSpan (l .z) a) (w .inward) (w .across)
-
-rapid-ends : (l : Limits) (facing : Bool) (i a : ℤ) → outside l (rapidTo facing i a .x) (rapidTo facing i a .z) ≡ outsideTo l facing i a
-unfolding rapidTo
-rapid-ends l true i a = refl
-rapid-ends l false i a = refl
-
-feed-ends : (l : Limits) (facing : Bool) (f : ℕ) (g95 : Bool) (i a : ℤ) → outside l (feedTo facing f g95 i a .x) (feedTo facing f g95 i a .z) ≡ outsideTo l facing i a
-unfolding feedTo
-feed-ends l true f g95 i a = refl
-feed-ends l false f g95 i a = refl
 
 -- ---- one pass: its four moves end within the limits just where these four places do
 record Legs (l : Limits) (p : Pass) (line : ℤ) : Type 0 where
