@@ -1,5 +1,5 @@
 // Moves of a cycle: to a place on the axis that goes in, and a place on the axis across it. Facing, these are Z and X, else X and Z.
-// Each function writes one record at its place in the lent buffer, or reads where such a record ends.
+// Each function writes one record at its place in the lent buffer.
 ghost use mathlib.Core.Path.{_≡_};
 ghost use Prim.Native.Nat.{_+_, _≤_};
 ghost use lib.ListN.{length};

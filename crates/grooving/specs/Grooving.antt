@@ -63,7 +63,7 @@ cutTo g w d = feedTo (g .facing) (g .f) (g .g95) d w
 abbrev pub outTo : Groove → ℤ → ℤ → Record
 outTo g w d = rapidTo (g .facing) d w
 
--- the place at depth t below the start
+-- the place at depth t, from the start toward the target
 abbrev pub deepAt : Groove → ℕ → ℤ
 deepAt g t = g .depth .start +ℤ along (wayOf (g .depth)) t
 
@@ -71,7 +71,7 @@ deepAt g t = g .depth .start +ℤ along (wayOf (g .depth)) t
 unfoldable pub cutting : Groove → ℤ → ℕ → List ℕ → List Record
 cutting g w t [] = []
 cutting g w t (d ∷ []) = cutTo g w (deepAt g (t + d)) ∷ []
-cutting g w t (d ∷ (e ∷ ds)) = cutTo g w (deepAt g (t + d)) ∷ outTo g w (deepAt g (t + d - g .back)) ∷ cutting g w (t + d) (e ∷ ds)
+cutting g w t (d ∷ (e ∷ ds)) = cutTo g w (deepAt g (t + d)) ∷ outTo g w (deepAt g ((t + d) - g .back)) ∷ cutting g w (t + d) (e ∷ ds)
 
 -- "Then dwell if D4 is above 0"
 unfoldable pub dwelling : Groove → ℤ → List Record

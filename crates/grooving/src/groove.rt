@@ -7,7 +7,7 @@ ghost use Prim.Native.Nat.{_<_};
 ghost use Rattle.cycles.specs.Limits.{anyOutside};
 ghost use Rattle.grooving.specs.Grooving.{lengthOf, wrong, stepCount, cutCount, plungeCount, lastWidth, recordCount, grooving};
 
-// From where to where an axis goes.
+// Where an axis stands and where the block sends it.
 pub struct Way {
     pub start: i32,
     pub target: i32,
@@ -37,8 +37,8 @@ pub fn length_of(w: Way) -> u32
     whole::signed::distance(target, start)
 }
 
-// What alarm 19 asks of a groove: its target lies below its start on the width axis, it has a depth, it is no narrower than the tool, and a tool that does not
-// fill it is wider than the overlap.
+// Whether a groove is refused (alarm 19): its target does not lie below its start on the width axis, it has no depth, it is narrower than the tool, or a tool that
+// does not fill it is not wider than the overlap.
 pub fn is_wrong(g: Groove) -> bool
     ensures { λ r. ⌜ r ≡ wrong g ⌝ }
 {

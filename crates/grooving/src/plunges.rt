@@ -9,7 +9,7 @@ ghost use Rattle.whole.specs.Bytes.{laid};
 ghost use Rattle.moves.specs.Form.{recordStart, rowBytes};
 ghost use Rattle.grooving.specs.Grooving.{lengthOf, wrong, cutCount, cuts, stepCount, plungeCount, deepAt, cutting, plunge, plunges, steps, grooving, recordCount};
 
-// The place at depth t below the start.
+// The place at depth t, from the start toward the target.
 fn deep_at(g: Groove, t: u32) -> i32
     requires { ⌜ t ≤ lengthOf (g .depth) ⌝ }
     ensures { λ r. ⌜ r ≡ deepAt g t ⌝ }

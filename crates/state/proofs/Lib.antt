@@ -1,0 +1,3 @@
+-- The laws of the machine between two blocks.
+pub mod Settling
+pub mod Sending

@@ -1,0 +1,4 @@
+// The machine between two blocks, and how a block's words act on it before its move: kept motion, G9x, shifts, correction, F, the due G00; offsets and targets.
+// (01: "Running a block".) What a block then does, and its alarms, is above this crate.
+pub mod modal;
+pub mod target;
