@@ -1,11 +1,12 @@
 -- Rows of records that a wrong program would write, and that `Turned` rules out.
 -- Assumes nothing.
 use mathlib.Core.Path.{_≡_, refl, sym, ap, _∙_, subst}
-use mathlib.Core.Bool.{true, false}
+use mathlib.Core.Bool.{true, false, false≢true}
 use mathlib.Core.List.{List, [], _∷_, map}
 use Prim.Native.Nat.{ℕ}
 use native.Mathlib.Omega.{arith}
 use lib.IntN.{ℤ, pos, negsuc}
+use lib.ListN.{length}
 use Rattle.whole.specs.Division.{Evenly}
 use Rattle.whole.proofs.Integers.{whole, up}
 use Rattle.whole.proofs.RuledOut.{thin-last, copied-first}
@@ -14,7 +15,7 @@ use Rattle.cycles.specs.Axis.{side}
 use Rattle.cycles.specs.Goes.{rapidTo, feedTo}
 use Rattle.turning.specs.declared.cycle.Cycle.{Cycle}
 use Rattle.turning.specs.Turning.{passFor, passOn, passes}
-use Rattle.turning.specs.Turned.{passLines, eachDepth, Depths, AllFeeds, Turned}
+use Rattle.turning.specs.Turned.{passLines, eachDepth, Depths, FeedsWithin, Turned}
 use Rattle.turning.proofs.Examples.{listed}
 
 -- depths that are whole numbers are those whole numbers
@@ -61,13 +62,40 @@ pub to-the-target : Turned listed
     ∷ feedTo false 120 true (pos 40000) (negsuc 19999)
     ∷ rapidTo false (pos 40000) (pos 2000)
     ∷ []) → ⊥
-unfolding rapidTo feedTo AllFeeds
-to-the-target t = let k = t .kept .1 .0 refl .path in absurd (omega (whole, k))
+unfolding rapidTo feedTo FeedsWithin
+to-the-target t = let k = t .kept .1 .0 refl .to .path in absurd (omega (whole, k))
 
 -- and past that of the infeed, with no division: one pass on the X target, though D0 leaves 400
 abbrev pub undivided : Cycle
 undivided = record { facing = false; infeed = listed .infeed; path = listed .path; division = 0; f = 120; g95 = true }
 
 pub all-of-the-infeed : Turned undivided (cutAs undivided (10000 ∷ [])) → ⊥
-unfolding rapidTo feedTo passOn passes AllFeeds
-all-of-the-infeed t = let k = t .kept .1 .0 refl .infeed in absurd (omega (whole, k))
+unfolding rapidTo feedTo passOn passes FeedsWithin
+all-of-the-infeed t = let k = t .kept .1 .0 refl .to .infeed in absurd (omega (whole, k))
+
+-- A CUT FROM TOO DEEP: each pass of the listed block begins on the X target, though D0 leaves 400, and its feed ends where it should
+pub cut-from-too-deep : Turned listed
+    (rapidTo false (pos 30000) (pos 2000)
+    ∷ feedTo false 120 true (pos 35200) (negsuc 19899)
+    ∷ feedTo false 120 true (pos 40000) (negsuc 19899)
+    ∷ rapidTo false (pos 40000) (pos 2000)
+    ∷ rapidTo false (pos 30000) (pos 2000)
+    ∷ feedTo false 120 true (pos 30400) (negsuc 19899)
+    ∷ feedTo false 120 true (pos 40000) (negsuc 19899)
+    ∷ rapidTo false (pos 40000) (pos 2000)
+    ∷ []) → ⊥
+unfolding rapidTo feedTo FeedsWithin
+cut-from-too-deep t = let k = t .kept .1 .0 refl .from .infeed in absurd (omega (whole, k))
+
+-- A PASS TOO MANY, ON A SLANT: it falls from a line beside the last one and so is no pass, then come the passes of the listed block
+pub slanted : (rs : List Record) → Turned listed
+    (rapidTo false (pos 30401) (pos 2000)
+    ∷ feedTo false 120 true (pos 30400) (negsuc 19899)
+    ∷ rs) → ⊥
+unfolding rapidTo feedTo FeedsWithin
+slanted rs t = false≢true (t .kept .1 .0 refl .straight)
+
+-- NOTHING WRITTEN, with no division: no pass at all, where one of all of the infeed less the allowance was to be
+pub nothing-written : Turned undivided [] → ⊥
+unfolding passLines eachDepth
+nothing-written t = absurd (omega (arith, ap length (t .single refl)))
