@@ -24,3 +24,27 @@ tooManyBlocks = 8
 -- "word rules"
 abbrev pub wordRules : ℕ
 wordRules = 9
+
+-- "path word with no motion function"
+abbrev pub noMotion : ℕ
+noMotion = 15
+
+-- "first traverse not G00"
+abbrev pub notRapid : ℕ
+notRapid = 16
+
+-- "F missing or out of range"
+abbrev pub badFeed : ℕ
+badFeed = 17
+
+-- "a move ends outside the limits"
+abbrev pub outsideLimits : ℕ
+outsideLimits = 18
+
+-- "cycle lengths, directions or tool width"
+abbrev pub badLengths : ℕ
+badLengths = 19
+
+-- "records above 4,000 or above the buffer"
+abbrev pub noRoom : ℕ
+noRoom = 20

@@ -3,17 +3,20 @@
 use mathlib.Core.Path.{_≡_, refl, sym, ap, _∙_, subst}
 use mathlib.Core.Bool.{Bool, true, false}
 use mathlib.Core.List.{List, [], _∷_, _++_}
-use Prim.Native.Nat.{ℕ, _+_, _*_, _<_, _≤_, _^_}
+use Prim.Native.Nat.{ℕ, zero, suc, _+_, _-_, _*_, _<_, _≤_, _^_}
+use native.Mathlib.Nat.{div-le-self}
 use native.Mathlib.Omega.{arith}
-use lib.IntN.{ℤ, _+ℤ_}
+use lib.IntN.{ℤ, _+ℤ_, _-ℤ_, natAbs}
 use lib.ListN.{length, length-append}
 use mir.Syntax.{w32}
 use mir.Val.{SFits}
+use borrow.Author.Tests.{ne-eqb}
 use Rattle.whole.specs.declared.signed.Side.{Side}
 use Rattle.whole.specs.Signed.{along}
 use Rattle.whole.specs.Division.{sum}
 use Rattle.whole.proofs.Sides.{along-add, along-zero}
-use Rattle.whole.proofs.Divisions.{pieces-length, pieces-sum}
+use Rattle.whole.proofs.Divisions.{count-is, pieces-length, pieces-sum}
+use Rattle.whole.proofs.Integers.{whole, range, sub-in, abs}
 use Rattle.moves.specs.Form.{Fitting, AllFitting}
 use Rattle.cycles.specs.declared.axis.Axis.{Axis}
 use Rattle.cycles.specs.Axis.{side, net, allowanceLine}
@@ -76,3 +79,21 @@ turning-fitting c i p v h g =
             (feed-fitting b (c .f) (c .g95) v (i .start) end, (rapid-fitting b (i .start) (p .start), go (m + d) ds (omega arith))),
           ),
         )
+
+-- ---- and how many they can be
+-- a length has no more passes than units
+few-passes : (e d : ℕ) → 0 < e → passCount e d ≤ e
+unfolding passCount
+few-passes e zero h = h
+few-passes e (suc d) h =
+    rw (ne-eqb (suc d) 0 (λ z. absurd (omega arith))) (omega (arith, count-is e (suc d) h (omega arith), div-le-self (e - 1) (suc d)))
+
+-- two places that fit lie less than 2 ^ 32 apart
+apart : (a b : ℤ) → SFits w32 a → SFits w32 b → natAbs (a -ℤ b) < 2 ^ 32
+apart a b f g = let x = range f in let y = range g in let d = sub-in a b in let m = abs (a -ℤ b) in omega whole
+
+pub few-turning : (c : Cycle) → Stands (c .infeed) → 0 < net (c .infeed) → recordCount c < 4 * 2 ^ 32
+unfolding recordCount
+few-turning c s h =
+    let a = c .infeed in
+    omega (arith, few-passes (net a) (c .division) h, apart (a .target) (a .start) (s .target) (s .start))

@@ -1,0 +1,88 @@
+-- 01: "Without a path word G00, G01 and G33 make no move. A move to the present point is still a record." "G84 (001: X or U before Z or W is longitudinal, else facing; the order is
+-- that of the words that apply). .. E is the infeed less D0; the end line is the Z target moved back toward the start by D2. D0 is counted on the diameter, like an X word .. d = 2 x D3
+-- (D3 is per side). .. Facing: exchange the axes, E from Z less D2, end line from X and D0, d = D3. .. Missing D0 and D2 are 0." G86: "alongside (X before Z)", "divides its X depth with
+-- 2 x D3", "a rapid back by twice the retract", "Facing: exchange axes, .. tool width 2 x D5, overlap 200, depth piece D3, single retract."
+use mathlib.Core.Bool.{Bool, true, false, cond, _||_}
+use Prim.Native.Nat.{ℕ, _+_, _*_, _<_}
+use lib.Dec.{ltb}
+use lib.IntN.{ℤ}
+use lib.ListN.{getD}
+use Rattle.block.specs.Rules.{has}
+use Rattle.block.specs.Words.{dFirst}
+use Rattle.block.specs.declared.codes.Motion.{Motion}
+use Rattle.block.specs.declared.codes.Motion.the-variants as motion
+use Rattle.block.specs.declared.words.Block.{Block}
+use Rattle.cycles.specs.declared.axis.Axis.{Axis}
+use Rattle.grooving.specs.declared.groove.Groove.{Groove}
+use Rattle.grooving.specs.declared.groove.Way.{Way}
+use Rattle.state.specs.Modal.{codeIn}
+use Rattle.state.specs.declared.modal.Kept.{Kept}
+use Rattle.state.specs.declared.modal.Kept.the-variants as kept
+use Rattle.turning.specs.declared.cycle.Cycle.{Cycle}
+use Rattle.deeds.specs.declared.deed.Deed.{Deed}
+use Rattle.deeds.specs.declared.deed.Deed.the-variants as deed
+use Rattle.deeds.specs.declared.deed.Sending.{Sending}
+
+-- a path word: X U Z W
+unfoldable pub hasPath : Block → Bool
+hasPath b = (has b 0 || has b 2) || (has b 1 || has b 3)
+
+-- where the word of an axis stands: that of X or U, and that of Z or W; a block has one of each at most, and the place of the other is 0
+abbrev pub placeOn : Block → ℕ → ℕ
+placeOn b k = getD (b .place) k 0 + getD (b .place) (k + 2) 0
+
+-- "X or U before Z or W is longitudinal, else facing"
+unfoldable pub isFacing : Block → Bool
+isFacing b = ltb (placeOn b 1) (placeOn b 0)
+
+-- the D word of an index; "Missing D0 and D2 are 0"
+abbrev pub dWord : Block → ℕ → ℕ
+dWord b i = codeIn b (dFirst + i)
+
+-- the axes of a turning cycle
+abbrev pub xAxis : Block → Sending → Axis
+xAxis b s = record { start = s .x; target = s .xto; allowance = dWord b 0 }
+
+abbrev pub zAxis : Block → Sending → Axis
+zAxis b s = record { start = s .z; target = s .zto; allowance = dWord b 2 }
+
+unfoldable pub cycleOf : Block → Sending → Cycle
+cycleOf b s =
+    cond (isFacing b)
+    (record { facing = true; infeed = zAxis b s; path = xAxis b s; division = dWord b 3; f = s .f; g95 = s .g95 })
+    (record { facing = false; infeed = xAxis b s; path = zAxis b s; division = 2 * dWord b 3; f = s .f; g95 = s .g95 })
+
+-- the ways of a groove
+abbrev pub xWay : Sending → Way
+xWay s = record { start = s .x; target = s .xto }
+
+abbrev pub zWay : Sending → Way
+zWay s = record { start = s .z; target = s .zto }
+
+-- "overlap at least 1/10 mm"
+abbrev pub overlap : ℕ
+overlap = 100
+
+unfoldable pub grooveOf : Block → Sending → Groove
+grooveOf b s =
+    cond (isFacing b)
+    (record { facing = true; depth = zWay s; width = xWay s; tool = 2 * dWord b 5; overlap = 2 * overlap; piece = dWord b 3; back = s .retract; dwell = dWord b 4; f = s .f; g95 = s .g95 })
+    (record { facing = false; depth = xWay s; width = zWay s; tool = dWord b 5; overlap = overlap; piece = 2 * dWord b 3; back = 2 * s .retract; dwell = dWord b 4; f = s .f; g95 = s .g95 })
+
+-- the deed of a motion; "Without a path word G00, G01 and G33 make no move"
+unfoldable pub moveOf : Motion → Block → Sending → Deed
+moveOf motion.Rapid b s = cond (hasPath b) (deed.Rapid (s .xto) (s .zto)) deed.Nothing
+moveOf motion.Feed b s = cond (hasPath b) (deed.Feed (s .xto) (s .zto)) deed.Nothing
+moveOf motion.Thread b s = cond (hasPath b) (deed.Thread (s .xto) (s .zto)) deed.Nothing
+moveOf motion.Dwell b s = deed.Dwell (dWord b 4)
+moveOf motion.Turning b s = deed.Turn (cycleOf b s)
+moveOf motion.Grooving b s = deed.Groove (grooveOf b s)
+
+-- the deed of a block, of its own motion (`blockMotion`) and not of the one it leaves kept
+unfoldable pub deedOf : Kept → Block → Sending → Deed
+deedOf (kept.Of m) b s = moveOf m b s
+deedOf kept.Nothing b s = cond (hasPath b) deed.Nowhere deed.Nothing
+
+-- the D words of a block that was read
+pub record Small (b : Block) : Type 0 where
+  pub each : (i : ℕ) → i < 10 → dWord b i < 32_768

@@ -1,0 +1,203 @@
+// The deed of a block, and the cycles as their words give them: what is counted on a diameter is scaled here, and nowhere else.
+// (01, "G84": "d = 2 x D3 (D3 is per side)"; "G86": "2 x D3", "twice the retract", facing "tool width 2 x D5, overlap 200, depth piece D3, single retract".)
+use block::codes::Motion;
+use block::words::Block;
+use cycles::axis::Axis;
+use grooving::groove::Groove;
+use grooving::groove::Way;
+use state::modal::Kept;
+use turning::cycle::Cycle;
+ghost use mathlib.Core.Path.{_≡_};
+ghost use Prim.Native.Nat.{_+_, _<_};
+ghost use Rattle.block.specs.Words.{dFirst};
+ghost use Rattle.state.specs.Modal.{codeIn};
+ghost use Rattle.deeds.specs.Deed.{hasPath, isFacing, cycleOf, grooveOf, moveOf, deedOf, Small};
+
+pub enum Deed {
+    // no move and no dwell
+    Nothing,
+    // a path word with no motion function (alarm 15)
+    Nowhere,
+    Dwell(u32),
+    Rapid(i32, i32),
+    Feed(i32, i32),
+    Thread(i32, i32),
+    Turn(Cycle),
+    Groove(Groove),
+}
+
+// Where the axes stand and where the block sends them, the feed in force, and the retract of the settings.
+pub struct Sending {
+    pub x: i32,
+    pub z: i32,
+    pub xto: i32,
+    pub zto: i32,
+    pub f: u32,
+    pub g95: bool,
+    pub retract: u32,
+}
+
+// The least overlap of two plunges, in micrometres.
+const OVERLAP: u32 = 100;
+
+// Whether the block has a path word.
+pub fn has_path(b: Block) -> bool
+    ensures { λ r. ⌜ r ≡ hasPath b ⌝ }
+{
+    let x = block::rules::has(b, block::words::X) | block::rules::has(b, block::words::U);
+    let z = block::rules::has(b, block::words::Z) | block::rules::has(b, block::words::W);
+    x | z
+}
+
+// "X or U before Z or W is longitudinal, else facing; the order is that of the words that apply". One word of each axis stands there (alarm 9 has seen to it), so that the other
+// place of an axis is 0.
+fn is_facing(b: Block) -> bool
+    ensures { λ r. ⌜ r ≡ isFacing b ⌝ }
+{
+    let x = wide(b.place[block::words::X]) + wide(b.place[block::words::U]);
+    let z = wide(b.place[block::words::Z]) + wide(b.place[block::words::W]);
+    z < x
+}
+
+fn wide(n: u8) -> u32
+    ensures { λ r. ⌜ (r ≡ n) × (r < 256) ⌝ }
+{
+    n as u32
+}
+
+// The D word of an index, 0 where there is none.
+fn setting(b: Block, index: usize) -> u32
+    requires { ⌜ Small b × (index < 10) ⌝ }
+    ensures { λ r. ⌜ (r ≡ codeIn b (dFirst + index)) × (r < 32_768) ⌝ }
+{
+    let k = block::words::D + index;
+    state::modal::code_in(b, k)
+}
+
+// A G84 block as a cycle.
+fn cycle_of(b: Block, s: Sending) -> Cycle
+    requires { ⌜ Small b ⌝ }
+    ensures { λ r. ⌜ r ≡ cycleOf b s ⌝ }
+{
+    let x = Axis {
+        start: s.x,
+        target: s.xto,
+        allowance: setting(b, 0),
+    };
+    let z = Axis {
+        start: s.z,
+        target: s.zto,
+        allowance: setting(b, 2),
+    };
+    let d3 = setting(b, 3);
+    if is_facing(b) {
+        return Cycle {
+            facing: true,
+            infeed: z,
+            path: x,
+            division: d3,
+            f: s.f,
+            g95: s.g95,
+        };
+    }
+    Cycle {
+        facing: false,
+        infeed: x,
+        path: z,
+        division: 2 * d3,
+        f: s.f,
+        g95: s.g95,
+    }
+}
+
+// A G86 block as a groove.
+fn groove_of(b: Block, s: Sending) -> Groove
+    requires { ⌜ Small b × (s .retract < 32_768) ⌝ }
+    ensures { λ r. ⌜ r ≡ grooveOf b s ⌝ }
+{
+    let x = Way {
+        start: s.x,
+        target: s.xto,
+    };
+    let z = Way {
+        start: s.z,
+        target: s.zto,
+    };
+    let d3 = setting(b, 3);
+    let d4 = setting(b, 4);
+    let d5 = setting(b, 5);
+    let retract = s.retract;
+    if is_facing(b) {
+        return Groove {
+            facing: true,
+            depth: z,
+            width: x,
+            tool: 2 * d5,
+            overlap: 2 * OVERLAP,
+            piece: d3,
+            back: retract,
+            dwell: d4,
+            f: s.f,
+            g95: s.g95,
+        };
+    }
+    Groove {
+        facing: false,
+        depth: x,
+        width: z,
+        tool: d5,
+        overlap: OVERLAP,
+        piece: 2 * d3,
+        back: 2 * retract,
+        dwell: d4,
+        f: s.f,
+        g95: s.g95,
+    }
+}
+
+// The deed of a block whose motion is m.
+fn move_of(m: Motion, b: Block, s: Sending) -> Deed
+    requires { ⌜ Small b × (s .retract < 32_768) ⌝ }
+    ensures { λ r. ⌜ r ≡ moveOf m b s ⌝ }
+{
+    let path = has_path(b);
+    match m {
+        Motion::Dwell => Deed::Dwell(setting(b, 4)),
+        Motion::Turning => Deed::Turn(cycle_of(b, s)),
+        Motion::Grooving => Deed::Groove(groove_of(b, s)),
+        Motion::Rapid => {
+            if path {
+                return Deed::Rapid(s.xto, s.zto);
+            }
+            Deed::Nothing
+        }
+        Motion::Feed => {
+            if path {
+                return Deed::Feed(s.xto, s.zto);
+            }
+            Deed::Nothing
+        }
+        Motion::Thread => {
+            if path {
+                return Deed::Thread(s.xto, s.zto);
+            }
+            Deed::Nothing
+        }
+    }
+}
+
+// The deed of a block.
+pub fn deed_of(motion: Kept, b: Block, s: Sending) -> Deed
+    requires { ⌜ Small b × (s .retract < 32_768) ⌝ }
+    ensures { λ r. ⌜ r ≡ deedOf motion b s ⌝ }
+{
+    match motion {
+        Kept::Of(m) => move_of(m, b, s),
+        Kept::Nothing => {
+            if has_path(b) {
+                return Deed::Nowhere;
+            }
+            Deed::Nothing
+        }
+    }
+}
