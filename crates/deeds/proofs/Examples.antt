@@ -6,13 +6,15 @@ use mathlib.Core.List.{List, [], _∷_, _++_}
 use Prim.Native.Nat.{ℕ}
 use lib.IntN.{ℤ, pos, negsuc}
 use lib.ListN.{replicate}
+use Rattle.block.specs.Codes.{gCode}
 use Rattle.block.specs.Rules.{has}
 use Rattle.block.specs.declared.codes.Motion.the-variants as motion
 use Rattle.block.specs.declared.words.Block.{Block}
 use Rattle.cycles.specs.declared.limits.Span.{Span}
 use Rattle.cycles.specs.Limits.{outsideSpan, outside}
-use Rattle.state.specs.Modal.{codeIn}
+use Rattle.state.specs.Modal.{atStart, codeIn, motionBy, blockMotion, keep, feedAfter, dueAfter, settled}
 use Rattle.state.specs.declared.modal.Kept.the-variants as kept
+use Rattle.state.specs.declared.modal.State.{State}
 use Rattle.turning.specs.Turning.{tooShort}
 use Rattle.deeds.specs.declared.deed.Deed.the-variants as deed
 use Rattle.deeds.specs.declared.deed.Sending.{Sending}
@@ -160,3 +162,18 @@ alarm-20 = refl
 pub no-alarm : alarmOf (deed.Rapid (pos 0) (pos 0)) (asked true 0 2) ≡ 0
 unfolding isNowhere isTraverse isRapid feedWrong lengthWrong endsOutside outsideSpan outside deedRecords alarmOf
 no-alarm = refl
+
+-- ---- P10: "T0101, then G01 X1.: alarm 16"
+abbrev tool : Block
+tool = record { value = replicate 6 (pos 0) ++ pos 101 ∷ []; place = replicate 6 0 ++ 1 ∷ []; words = 1; late = false; unknown = false; ends = false }
+
+abbrev feed : Block
+feed = record { value = pos 1000 ∷ replicate 31 (pos 0) ++ pos 1 ∷ []; place = 2 ∷ replicate 31 0 ++ 1 ∷ []; words = 2; late = false; unknown = false; ends = false }
+
+-- the state in which the second block makes its move
+abbrev before : State
+before = settled (settled (atStart (pos 0) (pos 0)) tool) feed
+
+pub p10 : alarmOf (deedOf (blockMotion (before .motion) feed) feed sent) (asked (before .due) (before .f) 100) ≡ 16
+unfolding has gCode codeIn motionBy blockMotion keep dueAfter feedAfter settled hasPath moveOf deedOf isNowhere isTraverse isRapid alarmOf
+p10 = refl
