@@ -1,0 +1,33 @@
+-- Calls and jumps of the paper, computed from the definitions.
+-- Assumes nothing.
+use mathlib.Core.Path.{_≡_, refl}
+use Rattle.block.specs.Codes.{mCode}
+use Rattle.state.specs.declared.next.Next.the-variants.{On, Call, Jump, Return, End}
+use Rattle.state.specs.Next.{timesOf, steered, flowBy}
+
+-- "L is 100 times the subroutine number plus the repeats"
+pub called-thrice : steered 25 8003 ≡ Call 80 3
+unfolding timesOf steered
+called-thrice = refl
+
+-- "repeats 0 means once"
+pub called-once : steered 25 8000 ≡ Call 80 1
+unfolding timesOf steered
+called-once = refl
+
+pub jumped : steered 27 8003 ≡ Jump 8003
+unfolding steered
+jumped = refl
+
+-- M00, M17, M30
+pub stopped : flowBy (mCode 0) ≡ On
+unfolding mCode flowBy
+stopped = refl
+
+pub returned : flowBy (mCode 17) ≡ Return
+unfolding mCode flowBy
+returned = refl
+
+pub ended : flowBy (mCode 30) ≡ End
+unfolding mCode flowBy
+ended = refl
