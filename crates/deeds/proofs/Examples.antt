@@ -1,4 +1,4 @@
--- 01's own blocks as deeds, computed from the definitions, and a case of each alarm.
+-- Blocks as deeds, computed from the definitions, with the numbers of 01's listing; a case of each alarm; and P10.
 -- Assumes nothing.
 use mathlib.Core.Path.{_≡_, refl}
 use mathlib.Core.Bool.{Bool, true, false}
@@ -37,7 +37,7 @@ words k m x z ds = record {
 abbrev sent : Sending
 sent = record { x = pos 40000; z = pos 2000; xto = pos 30000; zto = negsuc 19999; f = 120; g95 = true; retract = 500 }
 
--- D0=400 D2=100 D3=2500 D4=5 D5=3000
+-- D0=400 D2=100 D3=2500 as in the listing, with D4=5 D5=3000 beside them, which no block has together: each cycle takes its own
 abbrev settings : List ℤ
 settings = pos 400 ∷ pos 0 ∷ pos 100 ∷ pos 2500 ∷ pos 5 ∷ pos 3000 ∷ []
 

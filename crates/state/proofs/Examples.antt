@@ -1,4 +1,4 @@
--- Calls and jumps of the paper, computed from the definitions.
+-- A call, a jump and the M numbers of group 2, computed from the definitions.
 -- Assumes nothing.
 use mathlib.Core.Path.{_≡_, refl}
 use Rattle.block.specs.Codes.{mCode}

@@ -87,7 +87,7 @@ pub cut-from-too-deep : Turned listed
 unfolding rapidTo feedTo FeedsWithin
 cut-from-too-deep t = let k = t .kept .1 .0 refl .from .infeed in absurd (omega (whole, k))
 
--- A PASS TOO MANY, ON A SLANT: it falls from a line beside the last one and so is no pass, then come the passes of the listed block
+-- A CUT ON A SLANT, which would be no pass and so no depth, at the head of any row of records of the listed block
 pub slanted : (rs : List Record) → Turned listed
     (rapidTo false (pos 30401) (pos 2000)
     ∷ feedTo false 120 true (pos 30400) (negsuc 19899)
