@@ -1,15 +1,14 @@
 -- The number that a line begins with has at most four digits.
 -- Assumes nothing.
-use mathlib.Core.Path.{_≡_, refl, sym, ap, _∙_, subst}
+use mathlib.Core.Path.{_≡_, refl, sym, subst}
 use mathlib.Core.Bool.{Bool, true, false, cond, _||_}
 use mathlib.Core.List.{List}
 use Prim.Native.Nat.{ℕ, _<_}
 use lib.Dec.{T, eqb, ltb, eqb→eq}
-use lib.IntN.{ℤ, pos, natAbs}
+use lib.IntN.{ℤ, natAbs}
 use lib.ListN.{length}
 use Rattle.tape.specs.Letters.{percent, letterN, letterO}
 use Rattle.tape.specs.Words.{kindOf, nextWord}
-use Rattle.tape.specs.declared.word.Address.{Address}
 use Rattle.tape.specs.declared.word.Word.{Word}
 use Rattle.tape.specs.declared.word.Next.{Next}
 use Rattle.tape.specs.declared.word.Next.the-variants as next
@@ -27,14 +26,14 @@ HeadIn (BlockLine n) = n < 10_000
 HeadIn Blank = Unit {0}
 HeadIn Other = Unit {0}
 
-size-below : {n : ℕ} {z : ℤ} → Below n z → natAbs z < n
+pub size-below : {n : ℕ} {z : ℤ} → Below n z → natAbs z < n
 size-below {n} b = subst (λ (z : ℤ). natAbs z < n) (sym (b .is)) (b .small)
 
--- a word whose address takes four digits
-four : (w : Word) (a : ℕ) → WordIn w → w .address ≡ a → Within (kindOf a) (w .value)
-four w a i e = subst (λ (b : ℕ). Within (kindOf b) (w .value)) e (i .number)
+-- a word of the address a: its number is within what a takes
+pub taken : (w : Word) (a : ℕ) → WordIn w → w .address ≡ a → Within (kindOf a) (w .value)
+taken w a i e = subst (λ (b : ℕ). Within (kindOf b) (w .value)) e (i .number)
 
-eqb-is : (a b : ℕ) → eqb a b ≡ true → a ≡ b
+pub eqb-is : (a b : ℕ) → eqb a b ≡ true → a ≡ b
 eqb-is a b e = eqb→eq a b (subst T (sym e) tt)
 
 or-is : (a b : Bool) → (a || b) ≡ true → (P : Type 0) → (a ≡ true → P) → (b ≡ true → P) → P
@@ -48,8 +47,8 @@ head-small w i = go (eqb (w .address) percent || eqb (w .address) letterO) (eqb 
     go : (s t : Bool) → (eqb (w .address) percent || eqb (w .address) letterO) ≡ s → eqb (w .address) letterN ≡ t
         → HeadIn (cond s (ProgramLine (natAbs (w .value))) (cond t (BlockLine (natAbs (w .value))) Other))
     go true t e f = or-is (eqb (w .address) percent) (eqb (w .address) letterO) e (natAbs (w .value) < 10_000)
-        (λ d. size-below (four w percent i (eqb-is (w .address) percent d))) (λ d. size-below (four w letterO i (eqb-is (w .address) letterO d)))
-    go false true e f = size-below (four w letterN i (eqb-is (w .address) letterN f))
+        (λ d. size-below (taken w percent i (eqb-is (w .address) percent d))) (λ d. size-below (taken w letterO i (eqb-is (w .address) letterO d)))
+    go false true e f = size-below (taken w letterN i (eqb-is (w .address) letterN f))
     go false false e f = tt
 
 line-small : (s : List ℕ) (n : Next) → NextWord n → HeadIn (lineBy s n .head)

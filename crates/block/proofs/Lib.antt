@@ -4,3 +4,4 @@ pub mod Ruling
 pub mod Slots
 pub mod Lines
 pub mod Heads
+pub mod Worded

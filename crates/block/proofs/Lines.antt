@@ -1,12 +1,12 @@
 -- Laws of a line's words: how the next word carries the block on, and how a line begins.
 -- Assumes nothing.
-use mathlib.Core.Path.{_≡_, refl, sym, ap, _∙_}
+use mathlib.Core.Path.{_≡_, refl, ap, _∙_}
 use mathlib.Core.Bool.{Bool, true, false, cond}
 use mathlib.Core.List.{List}
-use Prim.Native.Nat.{ℕ, _+_, _≤_, _<_}
+use Prim.Native.Nat.{ℕ, _+_, _≤_}
 use native.Mathlib.Omega.{arith}
 use lib.ListN.{length}
-use Rattle.tape.specs.Words.{Words, word, ended, faulty, onward, nextWord, wordsFrom}
+use Rattle.tape.specs.Words.{word, faulty, onward, nextWord, wordsFrom}
 use Rattle.tape.specs.declared.word.Word.{Word}
 use Rattle.tape.specs.declared.word.Next.{Next}
 use Rattle.tape.specs.declared.word.Next.the-variants as next
@@ -14,7 +14,6 @@ use Rattle.tape.proofs.Wording.{words-more}
 use Rattle.block.specs.declared.words.Block.{Block}
 use Rattle.block.specs.declared.words.Slot.{Slot}
 use Rattle.block.specs.declared.words.Slot.the-variants.{At, Late, Unknown}
-use Rattle.block.specs.declared.words.Rest.{Rest}
 use Rattle.block.specs.Words.{slotOf, noWords, putIn, putWord, isProgramAddress, faultyRest, gather}
 
 -- no words are no more than any number

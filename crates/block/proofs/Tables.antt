@@ -3,14 +3,13 @@
 use Prim.Native.Nat.{ℕ, zero, suc, _-_, _≤_, _<_}
 use mathlib.Core.Bool.{Bool, true, false, cond, _&&_}
 use mathlib.Core.List.{List, [], _∷_, _++_}
-use mathlib.Core.Path.{_≡_, refl, _∙_}
+use mathlib.Core.Path.{_≡_, refl}
 use native.Mathlib.Omega.{arith}
 use lib.Dec.{leb}
 use lib.ListN.{take, drop}
 use borrow.Author.Tests.{leb-true, le-leb}
 use Rattle.block.specs.declared.codes.Code.{Code}
 use Rattle.block.specs.declared.codes.Code.the-variants.{Of, Unknown}
-use Rattle.block.specs.declared.codes.Meaning.{Meaning}
 use Rattle.block.specs.declared.codes.Meaning.the-variants as means
 use Rattle.block.specs.Codes.{Row, one, range, look, gRows, mRows, gCode, mCode}
 

@@ -6,13 +6,13 @@ use mathlib.Core.List.{List}
 use Prim.Native.Nat.{ℕ, zero, suc, _+_, _*_, _<_, _≤_}
 use native.Mathlib.Nat.{mul-le-mul}
 use native.Mathlib.Omega.{arith}
-use lib.Dec.{T, eqb}
+use lib.Dec.{T, ltb, eqb}
 use mir.Val.{Val}
 use denote.Laws.{Is}
 use denote.Enum.Declared.{row}
 use denote.Enum.Laws.{owed}
 use borrow.Author.Needs.{needs}
-use borrow.Author.Tests.{eqb-false}
+use borrow.Author.Tests.{eqb-false, ltb-false, lt-ltb}
 use Rattle.alarms.specs.Numbers.{noMotion, notRapid, badFeed, outsideLimits, badLengths, noRoom}
 use Rattle.cycles.specs.Axis.{net}
 use Rattle.cycles.specs.declared.limits.Limits.{Limits}
@@ -132,3 +132,31 @@ module _ (d : Deed) (a : Asked) where
             pub no-alarm : roomWrong d a ≡ false → alarmOf d a ≡ 0
             unfolding alarmOf
             no-alarm h = rw (h15, h16, h17, h19, h18, h)
+
+-- ---- a deed without an alarm passed every test
+passes : (t : Bool) (n rest : ℕ) → 0 < n → cond t n rest ≡ 0 → (t ≡ false) × (rest ≡ 0)
+passes true n rest h e = absurd (omega (arith, h, e))
+passes false n rest h e = (refl, e)
+
+-- what the writers ask for: its lengths, its places and the room for all records of the block
+pub record Passed (d : Deed) (a : Asked) : Type 0 where
+  pub lengths : lengthWrong d ≡ false
+  pub inside : endsOutside d (a .limits) ≡ false
+  pub room : deedRecords d + a .others ≤ a .left
+
+enough : (n left : ℕ) → (ltb 0 n && ltb left n) ≡ false → n ≤ left
+enough zero left e = omega arith
+enough (suc n) left e =
+    let some : true ≡ ltb 0 (suc n) = sym (lt-ltb 0 (suc n) (omega arith)) in
+    ltb-false left (suc n) (ap (λ (t : Bool). t && ltb left (suc n)) some ∙ e)
+
+pub passed : (d : Deed) (a : Asked) → alarmOf d a ≡ 0 → Passed d a
+unfolding alarmOf
+passed d a e =
+    let h15 = passes (isNowhere d) noMotion _ (omega arith) e in
+    let h16 = passes (notRapidYet d a) notRapid _ (omega arith) (h15 .1) in
+    let h17 = passes (feedWrong d (a .f)) badFeed _ (omega arith) (h16 .1) in
+    let h19 = passes (lengthWrong d) badLengths _ (omega arith) (h17 .1) in
+    let h18 = passes (endsOutside d (a .limits)) outsideLimits _ (omega arith) (h19 .1) in
+    let h20 = passes (roomWrong d a) noRoom 0 (omega arith) (h18 .1) in
+    record { lengths = h19 .0; inside = h18 .0; room = enough (deedRecords d + a .others) (a .left) (h20 .0) }

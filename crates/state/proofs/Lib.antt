@@ -3,3 +3,4 @@ pub mod Examples
 pub mod Settling
 pub mod Steering
 pub mod Sending
+pub mod Ranges

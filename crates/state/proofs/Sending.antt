@@ -1,41 +1,28 @@
 -- The laws of offsets and targets: the numbers of the table and their sums fit an `i32`, and no lawful target is refused.
-use mathlib.Core.Path.{_≡_, refl, sym, ap, _∙_, subst}
-use mathlib.Core.Bool.{Bool, true, false, _&&_}
+use mathlib.Core.Path.{_≡_, ap, _∙_}
+use mathlib.Core.Bool.{true, false}
 use mathlib.Core.List.{List}
 use Prim.Native.Nat.{ℕ, zero, suc, _+_, _-_, _*_, _≤_}
 use native.Mathlib.Omega.{arith}
-use lib.Dec.{T, eqb}
+use lib.Dec.{eqb}
 use lib.IntN.{ℤ, pos, _+ℤ_, _*ℤ_}
-use lib.Signed.{leZ, _≤ℤ_}
+use lib.Signed.{_≤ℤ_}
 use lib.ListN.{getD}
 use borrow.Author.Tests.{ne-eqb}
 use mir.Syntax.{w32}
 use mir.Val.{SFits, toZ, ofZ}
 use mir.Facts.{toZ-ofZ}
-use Rattle.whole.specs.Position.{inTable, placed, tableLeast, tableGreatest}
+use Rattle.whole.specs.Position.{placed}
 use Rattle.whole.specs.declared.position.Placed.{Placed}
 use Rattle.whole.specs.declared.position.Placed.the-variants.{At}
-use Rattle.whole.proofs.Integers.{whole, add-in, up-mul, down-mul, le-true}
+use Rattle.whole.proofs.Integers.{whole, add-in, up-mul, down-mul}
 use Rattle.whole.proofs.Held.{Holds, held, is, sum, sum-need}
-use Rattle.whole.proofs.Positions.{InTable, placed-at, w-placed, u-placed}
+use Rattle.whole.proofs.Positions.{InTable, in-range, placed-at, w-placed, u-placed}
 use Rattle.block.specs.Rules.{has}
 use Rattle.block.specs.declared.words.Block.{Block}
 use Rattle.state.specs.declared.target.Pair.{Pair}
 use Rattle.state.specs.Target.{pairOf, correctionPair, offsetOf, placeOr, sent, offsetLeast, offsetGreatest, Table, Sent}
 use Rattle.state.specs.declared.modal.State.{State}
-
--- ---- the table's range
-both-true : (a b : Bool) → (a && b) ≡ true → (a ≡ true) × (b ≡ true)
-both-true true b h = (refl, h)
-both-true false b h = absurd (subst T (sym h) tt)
-
-pub in-range : (z : ℤ) → inTable z ≡ true → InTable z
-unfolding inTable
-in-range z h =
-    let p = both-true (leZ tableLeast z) (leZ z tableGreatest) h in
-    let l = p .0 in
-    let g = p .1 in
-    record { low = omega (whole, le-true tableLeast z l); high = omega (whole, le-true z tableGreatest g) }
 
 pub zero-in : InTable (pos 0)
 zero-in = record { low = omega whole; high = omega whole }

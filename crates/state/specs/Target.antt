@@ -61,6 +61,12 @@ pub record Numbers (s : State) : Type 0 where
   pub second : s .second ≤ 5
   pub correction : s .correction ≤ 99
 
+-- what is known of the machine between two blocks: the table has its shifts and its correction, and the axes stand in the table's range
+pub record Sound (s : State) : Type 0 where
+  pub numbers : Numbers s
+  pub x : inTable (s .x) ≡ true
+  pub z : inTable (s .z) ≡ true
+
 -- an offset of three numbers of the table
 abbrev pub offsetGreatest : ℤ
 offsetGreatest = pos 29_999_997

@@ -1,4 +1,4 @@
-// What the runner must do after a block: go on, call, jump, return or end.
+// What the runner must do after a block: go on, call, jump, return, end, or stop with an alarm.
 // (01: "G25: L is 100 times the subroutine number plus the repeats; repeats 0 means once. .. M17 returns. G27 goes to the block numbered L of the same program. .. M30 ends the run.")
 use crate::modal::code_in;
 use block::codes::Code;
@@ -16,6 +16,8 @@ pub enum Next {
     Jump(u32),
     Return,
     End,
+    // the alarm's number; no block asks for it, it is what comes of a refused one
+    Stop(u8),
 }
 
 // The groups of G25 and G27, and of M00, M17 and M30.

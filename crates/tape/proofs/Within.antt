@@ -41,7 +41,7 @@ Read P (Value z p) = P z
 Read P Bad = Unit {0}
 
 -- ---- tests
-cond-ind : {A : Type 0} (P : A → Type 0) (t : Bool) (x y : A) → (t ≡ true → P x) → P y → P (cond t x y)
+pub cond-ind : {A : Type 0} (P : A → Type 0) (t : Bool) (x y : A) → (t ≡ true → P x) → P y → P (cond t x y)
 cond-ind P true x y f g = f refl
 cond-ind P false x y f g = g
 

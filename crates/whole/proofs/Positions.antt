@@ -1,18 +1,38 @@
--- No lawful target is refused: what `placed` is there for is that no sum wraps, not that a tape is judged by it.
+-- The table's range, as a test and as two bounds. No lawful target is refused: what `placed` is there for is that no sum wraps, not that a tape is judged by it.
 -- Assumes nothing.
-use mathlib.Core.Path.{_≡_, refl}
-use mathlib.Core.Bool.{true, false}
+use mathlib.Core.Path.{_≡_, refl, sym, subst}
+use mathlib.Core.Bool.{Bool, true, false, _&&_}
+use lib.Dec.{T}
 use lib.IntN.{ℤ, pos, _+ℤ_, _*ℤ_}
 use lib.Signed.{ltZ, leZ, _≤ℤ_}
 use Rattle.whole.specs.declared.position.Placed.{Placed}
 use Rattle.whole.specs.declared.position.Placed.the-variants.{At, Outside}
-use Rattle.whole.specs.Position.{tableLeast, tableGreatest, targetLeast, targetGreatest, placed}
-use Rattle.whole.proofs.Integers.{whole, up, down, add-in, up-mul, down-mul, lt-test, nlt-test}
+use Rattle.whole.specs.Position.{tableLeast, tableGreatest, inTable, targetLeast, targetGreatest, placed}
+use Rattle.whole.proofs.Integers.{whole, up, down, add-in, up-mul, down-mul, le-true, lt-test, nlt-test}
 
 -- a number in the table's range
 pub record InTable (z : ℤ) : Type 0 where
   pub low : tableLeast ≤ℤ z
   pub high : z ≤ℤ tableGreatest
+
+both-true : (a b : Bool) → (a && b) ≡ true → (a ≡ true) × (b ≡ true)
+both-true true b h = (refl, h)
+both-true false b h = absurd (subst T (sym h) tt)
+
+both : (a b : Bool) → T a → T b → (a && b) ≡ true
+both true true h k = refl
+both true false h k = absurd k
+both false b h k = absurd h
+
+pub in-range : (z : ℤ) → inTable z ≡ true → InTable z
+unfolding inTable
+in-range z h =
+    let p = both-true (leZ tableLeast z) (leZ z tableGreatest) h in
+    record { low = omega (whole, le-true tableLeast z (p .0)); high = omega (whole, le-true z tableGreatest (p .1)) }
+
+pub in-table : (z : ℤ) → InTable z → inTable z ≡ true
+unfolding inTable
+in-table z h = both (leZ tableLeast z) (leZ z tableGreatest) (h .low .le) (h .high .le)
 
 pub placed-at : (z : ℤ) → targetLeast ≤ℤ z → z ≤ℤ targetGreatest → placed z ≡ At (record { um = z })
 unfolding placed

@@ -1,5 +1,4 @@
 -- `block::rules::dwell_with_path` meets its contract.
-use Rattle.block.specs.Words.{lSlot}
 use Rattle.block.specs.Rules.{dwellWithPath, anyFrom, groupZeroIs}
 use Rattle.block.proofs.Ruling.{first-fails, second-tells}
 use borrow.Author.Needs.{needs}

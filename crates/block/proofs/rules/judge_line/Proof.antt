@@ -1,13 +1,12 @@
 -- `block::rules::judge_line` meets its contract.
 use mathlib.Core.Path.{_≡_, sym, ap, _∙_}
-use mathlib.Core.Bool.{Bool, true, false, cond}
+use mathlib.Core.Bool.{true, false}
 use mathlib.Core.List.{List}
 use Prim.Native.Nat.{ℕ, _≤_}
 use lib.ListN.{length}
 use borrow.Author.Tests.{lt-ltb, le-ltb}
 use Rattle.alarms.specs.Numbers.{badByteOrNumber}
 use Rattle.block.specs.declared.words.Reading.{Reading}
-use Rattle.block.specs.declared.rules.Judged.{Judged}
 use Rattle.block.specs.Words.{lineOf}
 use Rattle.block.specs.Rules.{brokenBy, refusedLine, judgedBy, judged}
 use borrow.Author.Needs.{needs}

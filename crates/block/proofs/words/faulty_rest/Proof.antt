@@ -1,6 +1,5 @@
 -- `block::words::faulty_rest` meets its contract.
 use mathlib.Core.Bool.{true}
-use Rattle.block.specs.declared.words.Rest.{Rest}
 use Rattle.block.specs.Words.{faultyRest}
 use borrow.Author.Needs.{needs}
 use Rattle.block.proofs.words.faulty_rest.Statement.{statement}

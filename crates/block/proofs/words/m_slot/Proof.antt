@@ -1,5 +1,5 @@
 -- `block::words::m_slot` meets its contract.
-use mathlib.Core.Path.{_≡_, ap, sym, _∙_, subst}
+use mathlib.Core.Path.{ap, sym, _∙_, subst}
 use Prim.Native.Nat.{_<_}
 use Rattle.block.proofs.Tables.{CodeIn, m-groups}
 use Rattle.block.specs.declared.codes.Code.{Code}

@@ -1,0 +1,150 @@
+-- The numbers of a block that was read: what a word's address takes bounds what its slot holds.
+-- Assumes nothing.
+use mathlib.Core.Path.{_≡_, refl, sym, ap, subst}
+use mathlib.Core.Bool.{true}
+use mathlib.Core.List.{List, [], _∷_}
+use Prim.Native.Nat.{ℕ, zero, suc, _+_, _≤_, _<_}
+use native.Mathlib.Omega.{arith}
+use lib.Dec.{eqb}
+use lib.IntN.{ℤ, pos, natAbs}
+use lib.ListN.{length, getD, set, replicate}
+use Rattle.whole.specs.Position.{inTable}
+use Rattle.whole.proofs.Positions.{InTable, in-table}
+use Rattle.tape.specs.Letters.{letterD, letterF, letterG, letterL, letterM, letterN, letterP, letterS, letterT, letterU, letterW, letterX, letterZ}
+use Rattle.tape.specs.Words.{Words, word, ended, faulty, onward, kindOf, nextWord, wordsUp, wordsFrom}
+use Rattle.tape.specs.declared.word.Word.{Word}
+use Rattle.tape.specs.declared.word.Next.{Next}
+use Rattle.tape.specs.declared.word.Next.the-variants as next
+use Rattle.tape.proofs.Within.{cond-ind, WordIn, NextWord, word-within}
+use Rattle.block.specs.declared.codes.Code.{Code}
+use Rattle.block.specs.declared.codes.Code.the-variants as code
+use Rattle.block.specs.declared.words.Block.{Block}
+use Rattle.block.specs.declared.words.Slot.{Slot}
+use Rattle.block.specs.declared.words.Slot.the-variants.{At, Late, Unknown}
+use Rattle.block.specs.declared.words.Rest.{Rest}
+use Rattle.block.specs.Codes.{gCode, mCode}
+use Rattle.block.specs.Words.{mFirst, pFirst, dFirst, gFirst, codeSlot, numberIn, slotOf, noWords, putIn, putWord, isProgramAddress, faultyRest, gather, lineBy, lineOf}
+use Rattle.block.specs.Worded.{Worded}
+use Rattle.block.proofs.Heads.{size-below, taken, eqb-is}
+use Rattle.block.proofs.Tables.{CodeIn, m-groups}
+
+-- ---- what the slot k may hold: X Z U W from 0 to 3, D from 21 to 30
+record Holds (k : ℕ) (z : ℤ) : Type 0 where
+  path : k ≤ 3 → inTable z ≡ true
+  setting : dFirst ≤ k → k < dFirst + 10 → natAbs z < 32_768
+
+abbrev SlotHolds : Slot → ℤ → Type 0
+SlotHolds (At k) z = Holds k z
+SlotHolds Late z = Unit {0}
+SlotHolds Unknown z = Unit {0}
+
+-- a slot of X Z U W, one of D, and one of neither
+path-holds : (k : ℕ) (z : ℤ) → k ≤ 3 → InTable z → Holds k z
+path-holds k z l h = record { path = λ _. in-table z h; setting = λ a _. absurd (omega (arith, l, a)) }
+
+setting-holds : (k : ℕ) (z : ℤ) → dFirst ≤ k → natAbs z < 32_768 → Holds k z
+setting-holds k z l h = record { path = λ a. absurd (omega (arith, l, a)); setting = λ _ _. h }
+
+other-below : (k : ℕ) (z : ℤ) → 4 ≤ k → k < dFirst → Holds k z
+other-below k z l h = record { path = λ a. absurd (omega (arith, l, a)); setting = λ a _. absurd (omega (arith, h, a)) }
+
+other-above : (k : ℕ) (z : ℤ) → dFirst + 10 ≤ k → Holds k z
+other-above k z h = record { path = λ a. absurd (omega (arith, h, a)); setting = λ _ a. absurd (omega (arith, h, a)) }
+
+g-holds : (c : Code) (z : ℤ) → SlotHolds (codeSlot c gFirst) z
+g-holds (code.Of g m) z = other-above (gFirst + g) z (omega arith)
+g-holds code.Unknown z = tt
+
+m-holds : (c : Code) (z : ℤ) → CodeIn c 4 → SlotHolds (codeSlot c mFirst) z
+m-holds (code.Of g m) z h = other-below (mFirst + g) z (omega arith) (omega arith)
+m-holds code.Unknown z h = tt
+
+slot-holds : (w : Word) → WordIn w → SlotHolds (slotOf w) (w .value)
+unfolding slotOf kindOf
+slot-holds w i =
+    let a = w .address in
+    let z = w .value in
+    let P : Slot → Type 0 = λ s. SlotHolds s z in
+    cond-ind P (eqb a letterX) _ _ (λ t. path-holds 0 z (omega arith) (taken w letterX i (eqb-is a letterX t)))
+    (cond-ind P (eqb a letterZ) _ _ (λ t. path-holds 1 z (omega arith) (taken w letterZ i (eqb-is a letterZ t)))
+    (cond-ind P (eqb a letterU) _ _ (λ t. path-holds 2 z (omega arith) (taken w letterU i (eqb-is a letterU t)))
+    (cond-ind P (eqb a letterW) _ _ (λ t. path-holds 3 z (omega arith) (taken w letterW i (eqb-is a letterW t)))
+    (cond-ind P (eqb a letterF) _ _ (λ _. other-below 4 z (omega arith) (omega arith))
+    (cond-ind P (eqb a letterS) _ _ (λ _. other-below 5 z (omega arith) (omega arith))
+    (cond-ind P (eqb a letterT) _ _ (λ _. other-below 6 z (omega arith) (omega arith))
+    (cond-ind P (eqb a letterL) _ _ (λ _. other-above 31 z (omega arith))
+    (cond-ind P (eqb a letterP) _ _ (λ _. other-below (pFirst + w .index) z (omega arith) (omega (arith, i .index)))
+    (cond-ind P (eqb a letterD) _ _ (λ t. setting-holds (dFirst + w .index) z (omega arith) (size-below (taken w letterD i (eqb-is a letterD t))))
+    (cond-ind P (eqb a letterG) _ _ (λ _. g-holds (gCode (numberIn w)) z)
+    (cond-ind P (eqb a letterM) _ _ (λ _. m-holds (mCode (numberIn w)) z (m-groups (numberIn w)))
+    (cond-ind P (eqb a letterN) _ _ (λ _. tt) tt))))))))))))
+
+-- ---- a block whose slots hold what they may
+abbrev Held : List ℤ → Type 0
+Held zs = (k : ℕ) → Holds k (getD zs k (pos 0))
+
+zero-holds : (k : ℕ) → Holds k (pos 0)
+unfolding inTable
+zero-holds k = record { path = λ _. refl; setting = λ _ _. omega arith }
+
+zeros : (n k : ℕ) → getD (replicate n (pos 0)) k (pos 0) ≡ pos 0
+zeros zero zero = refl
+zeros zero (suc k) = refl
+zeros (suc n) zero = refl
+zeros (suc n) (suc k) = zeros n k
+
+none-held : Held (noWords .value)
+unfolding noWords
+none-held k = subst (Holds k) (sym (zeros 40 k)) (zero-holds k)
+
+-- what holds of the number that is set, and of each number before, holds of each after
+set-keeps : (P : ℤ → Type 0) (zs : List ℤ) (k j : ℕ) (z : ℤ) → (k ≡ j → P z) → P (getD zs j (pos 0)) → P (getD (set zs k z) j (pos 0))
+set-keeps P [] k j z f g = g
+set-keeps P (y ∷ zs) zero zero z f g = f refl
+set-keeps P (y ∷ zs) zero (suc j) z f g = g
+set-keeps P (y ∷ zs) (suc k) zero z f g = g
+set-keeps P (y ∷ zs) (suc k) (suc j) z f g = set-keeps P zs k j z (λ e. f (ap suc e)) g
+
+set-held : (zs : List ℤ) (k : ℕ) (z : ℤ) → Holds k z → Held zs → Held (set zs k z)
+set-held zs k z h f j = set-keeps (Holds j) zs k j z (λ e. subst (λ (n : ℕ). Holds n z) e h) (f j)
+
+put-held : (k : Slot) (b : Block) (w : Word) → SlotHolds k (w .value) → Held (b .value) → Held (putIn k b w .value)
+put-held (At k) b w h f = set-held (b .value) k (w .value) h f
+put-held Late b w h f = f
+put-held Unknown b w h f = f
+
+-- ---- the words of a line
+abbrev Each : Words → Type 0
+Each (word w ws) = WordIn w × Each ws
+Each ended = Unit {0}
+Each faulty = Unit {0}
+
+each-onward : (n : Next) (f : ℕ → Words) → NextWord n → ((end : ℕ) → Each (f end)) → Each (onward n f)
+each-onward (next.Word w end) f i g = (i, g end)
+each-onward next.End f i g = tt
+each-onward next.Fault f i g = tt
+
+each-word : (k : ℕ) (s : List ℕ) (i : ℕ) → Each (wordsUp k s i)
+unfolding wordsUp
+each-word zero s i = tt
+each-word (suc k) s i = each-onward (nextWord s i) (λ end. wordsUp k s end) (word-within s i) (λ end. each-word k s end)
+
+gather-held : (b : Block) (ws : Words) → Held (b .value) → Each ws → Held (gather b ws .block .value)
+unfolding gather faultyRest putWord
+gather-held b ended f e = f
+gather-held b faulty f e = none-held
+gather-held b (word w ws) f e =
+    cond-ind (λ (r : Rest). Held (r .block .value)) (isProgramAddress (w .address)) faultyRest _ (λ _. none-held)
+    (gather-held (putIn (slotOf w) b w) ws (put-held (slotOf w) b w (slot-holds w (e .0)) f) (e .1))
+
+line-held : (s : List ℕ) (n : Next) → Held (lineBy s n .block .value)
+unfolding gather faultyRest wordsFrom
+line-held s next.Fault = none-held
+line-held s next.End = none-held
+line-held s (next.Word w end) = gather-held noWords (wordsUp (suc (length s)) s end) none-held (each-word (suc (length s)) s end)
+
+pub worded : (s : List ℕ) → Worded (lineOf s .block)
+unfolding lineOf
+worded s =
+    let h = line-held s (nextWord s 0) in
+    record { paths = λ k l. h k .path l; settings = λ i l. h (dFirst + i) .setting (omega arith) (omega (arith, l)) }

@@ -1,0 +1,15 @@
+-- 01: "X Z U W P numbers: .. 1 to 7 digits without a point, .. or at most 4 digits, a point and at most 3 digits"; "D at most 32,767". What is known of the numbers
+-- of a block that was read.
+use mathlib.Core.Path.{_≡_}
+use mathlib.Core.Bool.{true}
+use Prim.Native.Nat.{ℕ, _+_, _≤_, _<_}
+use lib.IntN.{pos, natAbs}
+use lib.ListN.{getD}
+use Rattle.whole.specs.Position.{inTable}
+use Rattle.block.specs.declared.words.Block.{Block}
+use Rattle.block.specs.Words.{dFirst}
+
+-- What is known of a block that was read: its path words are in the range of the table, since they have at most seven digits, and its D words are at most 32,767.
+pub record Worded (b : Block) : Type 0 where
+  pub paths : (k : ℕ) → k ≤ 3 → inTable (getD (b .value) k (pos 0)) ≡ true
+  pub settings : (i : ℕ) → i < 10 → natAbs (getD (b .value) (dFirst + i) (pos 0)) < 32_768

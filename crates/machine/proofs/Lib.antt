@@ -1,0 +1,6 @@
+-- The laws of this crate, for the crates above it.
+pub mod Writing
+pub mod Deeds
+pub mod Chain
+pub mod Sent
+pub mod Running

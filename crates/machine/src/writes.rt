@@ -1,0 +1,179 @@
+// The records of a block. (01: "Records of a block, in order: speed if S, tool if T, M of group 0, M of group 3, motion or dwell, then M00 or M30. M17 gives none.")
+// The room for all of them was asked for before (alarm 20).
+use block::words::Block;
+use deeds::deed::Deed;
+use moves::record::Record;
+use state::modal::State;
+ghost use mathlib.Core.Path.{_≡_};
+ghost use mathlib.Core.Bool.{false};
+ghost use Prim.Native.Nat.{_+_, _<_, _≤_};
+ghost use lib.ListN.{length};
+ghost use Rattle.whole.specs.Bytes.{laid};
+ghost use Rattle.moves.specs.Form.{recordStart, rowBytes};
+ghost use Rattle.deeds.specs.Judge.{lengthWrong, Near};
+ghost use Rattle.machine.specs.Writes.{oneIf, numberIf, speedOf, toolOf, mOf, dwellOf, speedAndTool, spindleAndCoolant, doing, moved, done, stops, writes, others};
+
+// The groups of the M words: M03 M04 M05; M08 M09; M00 M17 M30.
+const SPINDLE: usize = block::words::M;
+
+const COOLANT: usize = block::words::M + 3;
+
+const FLOW: usize = block::words::M + 2;
+
+// The M number that gives no record.
+const RETURN: u32 = 17;
+
+// Writes a record as number k where it is wanted, and answers the number of the next.
+fn put_if(buf: &mut [u8], k: usize, wanted: bool, what: Record) -> usize
+    requires { ⌜ recordStart (k + length (oneIf wanted what)) ≤ length (now buf) ⌝ }
+    ensures { λ r. ⌜ (r ≡ k + length (oneIf wanted what)) × (now (buf .exit) ≡ laid (now (buf .entry)) (recordStart k) (rowBytes (oneIf wanted what))) ⌝ }
+{
+    if wanted {
+        moves::list::write_record(buf, k, what);
+        return k + 1;
+    }
+    k
+}
+
+// The records of S, of T and of an M word in the slot k.
+fn speed_of(s: State, b: Block) -> Record
+    ensures { λ r. ⌜ r ≡ speedOf s b ⌝ }
+{
+    let n = state::modal::code_in(b, block::words::S);
+    Record::speed(s.x, s.z, n, s.g96)
+}
+
+fn tool_of(s: State, b: Block) -> Record
+    ensures { λ r. ⌜ r ≡ toolOf s b ⌝ }
+{
+    let n = state::modal::code_in(b, block::words::T);
+    Record::tool(s.x, s.z, n)
+}
+
+fn m_of(s: State, b: Block, k: usize) -> Record
+    requires { ⌜ k < 40 ⌝ }
+    ensures { λ r. ⌜ r ≡ mOf s b k ⌝ }
+{
+    let n = state::modal::code_in(b, k);
+    Record::miscellaneous(s.x, s.z, n)
+}
+
+// The record of a dwell.
+fn dwell_of(s: State, tenths: u32) -> Record
+    ensures { λ r. ⌜ r ≡ dwellOf s tenths ⌝ }
+{
+    Record::dwell(s.x, s.z, tenths)
+}
+
+// Writes the speed and the tool, from number k on, and answers the number of the next record.
+fn put_speed_and_tool(buf: &mut [u8], k: usize, s: State, b: Block) -> usize
+    requires { ⌜ recordStart (k + length (speedAndTool s b)) ≤ length (now buf) ⌝ }
+    ensures { λ r. ⌜ (r ≡ k + length (speedAndTool s b)) × (now (buf .exit) ≡ laid (now (buf .entry)) (recordStart k) (rowBytes (speedAndTool s b))) ⌝ }
+{
+    let speed = speed_of(s, b);
+    let tool = tool_of(s, b);
+    let second = put_if(buf, k, block::rules::has(b, block::words::S), speed);
+    put_if(buf, second, block::rules::has(b, block::words::T), tool)
+}
+
+// Writes the M words of groups 0 and 3, from number k on, and answers the number of the next record.
+fn put_spindle_and_coolant(buf: &mut [u8], k: usize, s: State, b: Block) -> usize
+    requires { ⌜ recordStart (k + length (spindleAndCoolant s b)) ≤ length (now buf) ⌝ }
+    ensures { λ r. ⌜ (r ≡ k + length (spindleAndCoolant s b)) × (now (buf .exit) ≡ laid (now (buf .entry)) (recordStart k) (rowBytes (spindleAndCoolant s b))) ⌝ }
+{
+    let spindle = m_of(s, b, SPINDLE);
+    let coolant = m_of(s, b, COOLANT);
+    let second = put_if(buf, k, block::rules::has(b, SPINDLE), spindle);
+    put_if(buf, second, block::rules::has(b, COOLANT), coolant)
+}
+
+// Writes the records of a deed, from number k on.
+fn put_deed(buf: &mut [u8], k: usize, s: State, d: Deed)
+    requires { ⌜ (lengthWrong d ≡ false) × (recordStart (k + length (doing s d)) ≤ length (now buf)) ⌝ }
+    ensures { λ _. ⌜ now (buf .exit) ≡ laid (now (buf .entry)) (recordStart k) (rowBytes (doing s d)) ⌝ }
+{
+    match d {
+        Deed::Nothing => {}
+        Deed::Nowhere => {}
+        Deed::Dwell(t) => moves::list::write_record(buf, k, dwell_of(s, t)),
+        Deed::Rapid(x, z) => moves::list::write_record(buf, k, Record::rapid(x, z)),
+        Deed::Feed(x, z) => moves::list::write_record(buf, k, Record::feed(x, z, s.f, s.g95)),
+        Deed::Thread(x, z) => moves::list::write_record(buf, k, Record::thread(x, z, s.f)),
+        Deed::Turn(c) => turning::passes::put_turning(buf, k, c),
+        Deed::Groove(g) => grooving::plunges::put_grooving(buf, k, g),
+    }
+}
+
+// A state that stands elsewhere.
+fn moved(s: State, due: bool, x: i32, z: i32) -> State
+    ensures { λ r. ⌜ r ≡ moved s due x z ⌝ }
+{
+    let motion = s.motion;
+    State {
+        motion,
+        g96: s.g96,
+        g95: s.g95,
+        first: s.first,
+        second: s.second,
+        correction: s.correction,
+        f: s.f,
+        due,
+        x,
+        z,
+    }
+}
+
+// The state after a deed: a move ends at its target, a cycle where it began; after a G00 none is due.
+pub fn done_of(s: State, d: Deed) -> State
+    ensures { λ r. ⌜ r ≡ done s d ⌝ }
+{
+    match d {
+        Deed::Rapid(x, z) => moved(s, false, x, z),
+        Deed::Feed(x, z) => moved(s, s.due, x, z),
+        Deed::Thread(x, z) => moved(s, s.due, x, z),
+        Deed::Nothing => s,
+        Deed::Nowhere => s,
+        Deed::Dwell(_) => s,
+        Deed::Turn(_) => s,
+        Deed::Groove(_) => s,
+    }
+}
+
+// Whether there is an M00 or an M30.
+fn stops(b: Block) -> bool
+    ensures { λ r. ⌜ r ≡ stops b ⌝ }
+{
+    block::rules::has(b, FLOW) & (state::modal::code_in(b, FLOW) != RETURN)
+}
+
+fn number_if(wanted: bool) -> u32
+    ensures { λ r. ⌜ (r ≡ numberIf wanted) × (r ≤ 1) ⌝ }
+{
+    if wanted { 1 } else { 0 }
+}
+
+// How many records a block has beside its deed's.
+pub fn others_of(b: Block) -> u32
+    ensures { λ r. ⌜ (r ≡ others b) × (r ≤ 5) ⌝ }
+{
+    let speed = number_if(block::rules::has(b, block::words::S));
+    let tool = number_if(block::rules::has(b, block::words::T));
+    let spindle = number_if(block::rules::has(b, SPINDLE));
+    let coolant = number_if(block::rules::has(b, COOLANT));
+    let stop = number_if(stops(b));
+    speed + tool + (spindle + coolant) + stop
+}
+
+// Writes the records of a block, from number k on, and answers the number of the next record.
+pub fn put_writes(buf: &mut [u8], k: usize, s: State, b: Block, d: Deed) -> usize
+    requires { ⌜ (lengthWrong d ≡ false) × Near d × (recordStart (k + length (writes s b d)) ≤ length (now buf)) ⌝ }
+    ensures { λ r. ⌜ (r ≡ k + length (writes s b d)) × (now (buf .exit) ≡ laid (now (buf .entry)) (recordStart k) (rowBytes (writes s b d))) ⌝ }
+{
+    let second = put_speed_and_tool(buf, k, s, b);
+    let third = put_spindle_and_coolant(buf, second, s, b);
+    put_deed(buf, third, s, d);
+    let last = third + (deeds::judge::deed_records(d) as usize);
+    let after = done_of(s, d);
+    let stop = m_of(after, b, FLOW);
+    put_if(buf, last, stops(b), stop)
+}
