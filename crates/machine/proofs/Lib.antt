@@ -4,3 +4,6 @@ pub mod Deeds
 pub mod Chain
 pub mod Sent
 pub mod Running
+pub mod Quiet
+pub mod Opening
+pub mod Examples

@@ -2,3 +2,4 @@
 pub mod Known
 pub mod Writes
 pub mod Blocks
+pub mod Opens

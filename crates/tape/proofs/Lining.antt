@@ -13,7 +13,7 @@ use lib.Seq.{drop-cons}
 use Rattle.tape.specs.declared.line.Line.{Line}
 use Rattle.tape.specs.declared.line.Gap.the-variants.{At, Fault}
 use Rattle.tape.specs.Letters.{cr, space, opening, closing}
-use Rattle.tape.specs.Lines.{seekFrom, isFeed, lineAt, LineIn, gapOf, GapIn, Text, textAt, linesUp, lines}
+use Rattle.tape.specs.Lines.{seekFrom, isFeed, lineAt, LineIn, onBy, gapOf, GapIn, Text, textAt, linesUp, lines}
 use Rattle.tape.proofs.Scanning.{scan-within}
 
 -- one law for each way on and each way out of a gap
@@ -59,14 +59,14 @@ gap-at false i [] n h from f = omega arith
 gap-at true i (b ∷ s) n h from f = go (eqb b cr) (eqb b closing) (gap-at false (i + 1) s n (omega arith) from (omega arith)) (gap-at true (i + 1) s n (omega arith) from (omega arith))
   where
     go : (t u : Bool) → GapIn (gapOf false (i + 1) s) from n → GapIn (gapOf true (i + 1) s) from n
-        → GapIn (cond t Fault (cond u (gapOf false (i + 1) s) (gapOf true (i + 1) s))) from n
+        → GapIn (onBy t (λ j. Fault) (onBy u (λ j. gapOf false j s) (λ j. gapOf true j s)) (i + 1)) from n
     go true u x y = tt
     go false true x y = x
     go false false x y = y
 gap-at false i (b ∷ s) n h from f = go (eqb b opening) (eqb b space) (gap-at true (i + 1) s n (omega arith) from (omega arith)) (gap-at false (i + 1) s n (omega arith) from (omega arith))
   where
     go : (t u : Bool) → GapIn (gapOf true (i + 1) s) from n → GapIn (gapOf false (i + 1) s) from n
-        → GapIn (cond t (gapOf true (i + 1) s) (cond u (gapOf false (i + 1) s) (At i))) from n
+        → GapIn (onBy t (λ j. gapOf true j s) (onBy u (λ j. gapOf false j s) (λ j. At i)) (i + 1)) from n
     go true u x y = x
     go false true x y = y
     go false false x y = omega arith

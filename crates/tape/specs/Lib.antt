@@ -3,3 +3,4 @@ pub mod Letters
 pub mod Lines
 pub mod Numbers
 pub mod Words
+pub mod Text

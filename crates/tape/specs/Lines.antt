@@ -42,13 +42,18 @@ pub record LineIn (r : Line) (from n : ℕ) : Type 0 where
   pub ends : r .after ≤ n
   pub onward : from < n → from < r .after
 
+-- one of two ways on from a place, of which the other is not gone
+abbrev pub onBy : Bool → (ℕ → Gap) → (ℕ → Gap) → ℕ → Gap
+onBy true f g j = f j
+onBy false f g j = g j
+
 -- the place of the first byte of a line's text that is neither a space nor in a comment, or of the text's end; the list's first byte stands at
 -- place i. The first argument: whether a comment is open. A comment that is still open at the end, or that holds a CR, is a fault
 unfoldable pub gapOf : Bool → ℕ → List ℕ → Gap
 gapOf true i [] = Fault
 gapOf false i [] = At i
-gapOf true i (b ∷ s) = cond (eqb b cr) Fault (cond (eqb b closing) (gapOf false (i + 1) s) (gapOf true (i + 1) s))
-gapOf false i (b ∷ s) = cond (eqb b opening) (gapOf true (i + 1) s) (cond (eqb b space) (gapOf false (i + 1) s) (At i))
+gapOf true i (b ∷ s) = onBy (eqb b cr) (λ j. Fault) (onBy (eqb b closing) (λ j. gapOf false j s) (λ j. gapOf true j s)) (i + 1)
+gapOf false i (b ∷ s) = onBy (eqb b opening) (λ j. gapOf true j s) (onBy (eqb b space) (λ j. gapOf false j s) (λ j. At i)) (i + 1)
 
 abbrev pub GapIn : Gap → ℕ → ℕ → Type 0
 GapIn Fault from n = Unit {0}
