@@ -1,6 +1,18 @@
 -- 01, "Alarms and their order": the numbers, once.
 use Prim.Native.Nat.{ℕ}
 
+-- "table not 208 numbers, a number out of range, lowest limit above highest, start outside limits, lowest subroutine above 255, main above 6999 or from lowest subroutine to 255"
+abbrev pub badSettings : ℕ
+badSettings = 1
+
+-- "tape above 65,535 bytes"
+abbrev pub tapeTooLong : ℕ
+tapeTooLong = 2
+
+-- "buffer under 8 bytes"
+abbrev pub bufferTooShort : ℕ
+bufferTooShort = 3
+
 -- "no `%` or `O`"
 abbrev pub noProgram : ℕ
 noProgram = 4
@@ -24,6 +36,26 @@ tooManyBlocks = 8
 -- "word rules"
 abbrev pub wordRules : ℕ
 wordRules = 9
+
+-- "main missing; called number outside lowest subroutine to 255 (001: alarm 630) or missing"
+abbrev pub programMissing : ℕ
+programMissing = 10
+
+-- "jump target missing"
+abbrev pub blockMissing : ℕ
+blockMissing = 11
+
+-- "eleventh call deep"
+abbrev pub tooDeep : ℕ
+tooDeep = 12
+
+-- "block 20,001 begun"
+abbrev pub tooManyBegun : ℕ
+tooManyBegun = 13
+
+-- "M17 in the main program, M30 in a subprogram, program ends without either"
+abbrev pub wrongEnd : ℕ
+wrongEnd = 14
 
 -- "path word with no motion function"
 abbrev pub noMotion : ℕ

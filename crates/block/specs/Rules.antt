@@ -117,7 +117,11 @@ abbrev pub judgedBy : Reading → Judged
 judgedBy r =
     cond (r .faulty) (refusedLine badByteOrNumber) (record { alarm = 0; head = r .head; broken = brokenBy (r .head) (r .block); ends = r .block .ends })
 
--- what the text of a line, its end not counted, shows by itself: alarm 7 above 160 bytes, then 5, else how it begins, whether it breaks a rule, and
+-- alarm 7: "line above 160 bytes, comments counted, line end not"
+abbrev pub longestLine : ℕ
+longestLine = 160
+
+-- what the text of a line, its end not counted, shows by itself: alarm 7, then 5, else how it begins, whether it breaks a rule, and
 -- whether the last word behind its first is M30
 unfoldable pub judged : List ℕ → Judged
-judged s = cond (ltb 160 (length s)) (refusedLine lineTooLong) (judgedBy (lineOf s))
+judged s = cond (ltb longestLine (length s)) (refusedLine lineTooLong) (judgedBy (lineOf s))

@@ -1,0 +1,2 @@
+-- What is known between two blocks of a trial.
+pub mod Carried
