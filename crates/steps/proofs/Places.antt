@@ -1,0 +1,172 @@
+-- Laws of the places that the runner goes to: each is that of a line of the tape, and no block by itself asks for an alarm.
+-- Assumes nothing.
+use mathlib.Core.Path.{_≡_, refl}
+use mathlib.Core.Bool.{_||_}
+use mathlib.Core.List.{List, [], _∷_}
+use Prim.Native.Nat.{ℕ, zero, suc, _+_, _<_, _≤_}
+use native.Mathlib.Omega.{arith}
+use lib.Dec.{ltb, eqb}
+use lib.ListN.{length}
+use borrow.Author.Tests.{ltb-true}
+use Rattle.tape.specs.Lines.{Text, lineAt, linesUp, lines}
+use Rattle.tape.proofs.Within.{cond-ind}
+use Rattle.block.specs.Codes.{mCode}
+use Rattle.block.specs.Rules.{has}
+use Rattle.block.specs.Words.{headOf, mFirst, gFirst}
+use Rattle.block.specs.declared.codes.Code.{Code}
+use Rattle.block.specs.declared.codes.Code.the-variants as code
+use Rattle.block.specs.declared.codes.Flow.the-variants as flow
+use Rattle.block.specs.declared.codes.Meaning.the-variants as means
+use Rattle.block.specs.declared.words.Block.{Block}
+use Rattle.block.specs.declared.words.Head.{Head}
+use Rattle.block.specs.declared.words.Head.the-variants.{Blank, ProgramLine, BlockLine, Other}
+use Rattle.reading.specs.Finding.{programAt, findProgram, blockAt, findBlock, blockOfProgram}
+use Rattle.reading.specs.declared.find.Found.{Found}
+use Rattle.reading.specs.declared.find.Found.the-variants.{At, Nowhere}
+use Rattle.state.specs.Modal.{codeIn}
+use Rattle.state.specs.Next.{steered, flowBy, nextOf}
+use Rattle.state.specs.declared.next.Next.{Next}
+use Rattle.state.specs.declared.next.Next.the-variants as next
+use Rattle.steps.specs.Ahead.{blockHere, firstBlock, mostCalls, calledAt, jumpedTo, lookedUp}
+use Rattle.steps.specs.Steps.{stopBy}
+use Rattle.steps.specs.declared.ahead.What.{What}
+use Rattle.steps.specs.declared.ahead.What.the-variants.{On, Call, Jump, Return, End, Stop}
+
+-- ---- the lines of a tape stand on it
+abbrev AllIn : ℕ → List Text → Type 0
+AllIn n [] = Unit {0}
+AllIn n (t ∷ ts) = (t .place < n) × AllIn n ts
+
+up-in : (k : ℕ) (s : List ℕ) (p : ℕ) → AllIn (length s) (linesUp k s p)
+unfolding linesUp
+up-in zero s p = tt
+up-in (suc k) s p = cond-ind (AllIn (length s)) (ltb p (length s)) _ [] (λ t. (ltb-true p (length s) t, up-in k s (lineAt s p .after))) tt
+
+lines-in : (s : List ℕ) (p : ℕ) → AllIn (length s) (lines s p)
+unfolding lines
+lines-in s p = up-in (length s) s p
+
+-- ---- what is found among them
+abbrev pub FoundIn : ℕ → Found → Type 0
+FoundIn n (At p) = p < n
+FoundIn n Nowhere = Unit {0}
+
+program-here : (m n : ℕ) (k : Head) (p : ℕ) (f : Found) → p < m → FoundIn m f → FoundIn m (programAt n k p f)
+unfolding programAt
+program-here m n (ProgramLine k) p f h g = cond-ind (FoundIn m) (eqb k n) (At p) f (λ _. h) g
+program-here m n (BlockLine k) p f h g = g
+program-here m n Blank p f h g = g
+program-here m n Other p f h g = g
+
+program-in : (m n : ℕ) (ts : List Text) → AllIn m ts → FoundIn m (findProgram n ts)
+unfolding findProgram
+program-in m n [] a = tt
+program-in m n (t ∷ ts) a = program-here m n (headOf (t .bytes)) (t .place) (findProgram n ts) (a .0) (program-in m n ts (a .1))
+
+block-here : (m n : ℕ) (k : Head) (p : ℕ) (f : Found) → p < m → FoundIn m f → FoundIn m (blockAt n k p f)
+unfolding blockAt
+block-here m n (ProgramLine k) p f h g = tt
+block-here m n (BlockLine k) p f h g = cond-ind (FoundIn m) (eqb k n) (At p) f (λ _. h) g
+block-here m n Blank p f h g = g
+block-here m n Other p f h g = g
+
+block-in : (m n : ℕ) (ts : List Text) → AllIn m ts → FoundIn m (findBlock n ts)
+unfolding findBlock
+block-in m n [] a = tt
+block-in m n (t ∷ ts) a = block-here m n (headOf (t .bytes)) (t .place) (findBlock n ts) (a .0) (block-in m n ts (a .1))
+
+first-here : (m : ℕ) (k : Head) (p : ℕ) (f : Found) → p < m → FoundIn m f → FoundIn m (blockHere k p f)
+unfolding blockHere
+first-here m (ProgramLine k) p f h g = tt
+first-here m (BlockLine k) p f h g = h
+first-here m Blank p f h g = g
+first-here m Other p f h g = g
+
+first-in : (m : ℕ) (ts : List Text) → AllIn m ts → FoundIn m (firstBlock ts)
+unfolding firstBlock
+first-in m [] a = tt
+first-in m (t ∷ ts) a = first-here m (headOf (t .bytes)) (t .place) (firstBlock ts) (a .0) (first-in m ts (a .1))
+
+pub program-on : (n : ℕ) (tape : List ℕ) (p : ℕ) → FoundIn (length tape) (findProgram n (lines tape p))
+program-on n tape p = program-in (length tape) n (lines tape p) (lines-in tape p)
+
+pub block-on : (n : ℕ) (tape : List ℕ) (program : ℕ) → FoundIn (length tape) (blockOfProgram n tape program)
+unfolding blockOfProgram
+block-on n tape program = let p = lineAt tape program .after in block-in (length tape) n (lines tape p) (lines-in tape p)
+
+pub first-on : (tape : List ℕ) (p : ℕ) → FoundIn (length tape) (firstBlock (lines tape p))
+first-on tape p = first-in (length tape) (lines tape p) (lines-in tape p)
+
+-- ---- a block by itself stops nothing
+abbrev Going : Next → Type 0
+Going next.On = Unit {0}
+Going (next.Call n times) = Unit {0}
+Going (next.Jump n) = Unit {0}
+Going next.Return = Unit {0}
+Going next.End = Unit {0}
+Going (next.Stop alarm) = ⊥
+
+steered-going : (g l : ℕ) → Going (steered g l)
+unfolding steered
+steered-going g l = cond-ind Going (eqb g 25) _ _ (λ _. tt) tt
+
+flow-going : (k : Code) → Going (flowBy k)
+unfolding flowBy
+flow-going (code.Of g (means.Steers flow.Stop)) = tt
+flow-going (code.Of g (means.Steers flow.Return)) = tt
+flow-going (code.Of g (means.Steers flow.End)) = tt
+flow-going (code.Of g (means.Moves m)) = tt
+flow-going (code.Of g (means.Shift k)) = tt
+flow-going (code.Of g means.Plain) = tt
+flow-going code.Unknown = tt
+
+next-going : (b : Block) → Going (nextOf b)
+unfolding nextOf
+next-going b =
+    cond-ind Going (has b (gFirst + 6)) _ _ (λ _. steered-going _ _)
+    (cond-ind Going (has b (mFirst + 2)) _ next.On (λ _. flow-going (mCode (codeIn b (mFirst + 2)))) tt)
+
+none-stops : (n : Next) → Going n → stopBy n ≡ 0
+unfolding stopBy
+none-stops next.On g = refl
+none-stops (next.Call n times) g = refl
+none-stops (next.Jump n) g = refl
+none-stops next.Return g = refl
+none-stops next.End g = refl
+none-stops (next.Stop alarm) g = absurd g
+
+pub no-stop : (b : Block) → stopBy (nextOf b) ≡ 0
+no-stop b = none-stops (nextOf b) (next-going b)
+
+-- ---- what it asks for: places on the tape, or an alarm
+abbrev pub WhatOn : ℕ → What → Type 0
+WhatOn n On = Unit {0}
+WhatOn n (Call p times) = p ≤ n
+WhatOn n (Jump p) = p ≤ n
+WhatOn n Return = Unit {0}
+WhatOn n End = Unit {0}
+WhatOn n (Stop alarm place) = 0 < alarm
+
+called-on : (n : ℕ) (f : Found) (calls times at : ℕ) → FoundIn n f → WhatOn n (calledAt f calls times at)
+unfolding calledAt
+called-on n Nowhere calls times at h = omega arith
+called-on n (At p) calls times at h = cond-ind (WhatOn n) (eqb calls 0) _ (Call p times) (λ _. omega arith) (omega arith)
+
+jumped-on : (n : ℕ) (f : Found) (at : ℕ) → FoundIn n f → WhatOn n (jumpedTo f at)
+unfolding jumpedTo
+jumped-on n Nowhere at h = omega arith
+jumped-on n (At p) at h = omega arith
+
+looked-by : (tape : List ℕ) (first lowest program calls at : ℕ) (n : Next) → Going n → WhatOn (length tape) (lookedUp tape first lowest program calls at n)
+unfolding lookedUp
+looked-by tape first lowest program calls at next.On g = tt
+looked-by tape first lowest program calls at (next.Call n times) g =
+    let f = findProgram n (lines tape first) in
+    cond-ind (WhatOn (length tape)) (ltb n lowest || ltb 255 n) _ (calledAt f calls times at) (λ _. omega arith) (called-on (length tape) f calls times at (program-on n tape first))
+looked-by tape first lowest program calls at (next.Jump n) g = jumped-on (length tape) (blockOfProgram n tape program) at (block-on n tape program)
+looked-by tape first lowest program calls at next.Return g = cond-ind (WhatOn (length tape)) (eqb calls mostCalls) _ Return (λ _. omega arith) tt
+looked-by tape first lowest program calls at next.End g = cond-ind (WhatOn (length tape)) (eqb calls mostCalls) End _ (λ _. tt) (omega arith)
+looked-by tape first lowest program calls at (next.Stop alarm) g = absurd g
+
+pub looked-on : (tape : List ℕ) (first lowest program calls at : ℕ) (b : Block) → WhatOn (length tape) (lookedUp tape first lowest program calls at (nextOf b))
+looked-on tape first lowest program calls at b = looked-by tape first lowest program calls at (nextOf b) (next-going b)
