@@ -1,0 +1,5 @@
+-- The laws of this crate, for the crates above it.
+pub mod Going
+pub mod Right
+pub mod Within
+pub mod Whole

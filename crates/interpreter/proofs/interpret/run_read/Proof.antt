@@ -1,0 +1,53 @@
+-- `interpreter::interpret::run_read` meets its contract.
+use denote.Ref.{now}
+use borrow.Author.Needs.{needs}
+use Rattle.interpreter.specs.Answers.{readThen}
+use Rattle.interpreter.proofs.Whole.{none-begun, read-gives}
+use Rattle.interpreter.proofs.Within.{cut-size, first-in}
+use Rattle.interpreter.proofs.interpret.run_read.Statement.{statement}
+use Rattle.interpreter.proofs.interpret.run_read.Tie as tie
+
+enum-known-read : tie.Need-enum-known-read
+enum-known-read c = search needs
+
+enum-known-read-2 : tie.Need-enum-known-read-2
+enum-known-read-2 c = search needs
+
+slice-aggregate-lines : tie.Need-slice-aggregate-lines
+slice-aggregate-lines c =
+    let m = c .before .before in
+    let s = m .before .before .before .before in
+    cut-size (now (s .args .tape)) (s .pre .0) (m .read2 .given .1)
+
+run-main-requires : tie.Need-run-main-requires
+run-main-requires c κs =
+    let m = c .before .before .before in
+    let s = m .before .before .before .before in
+    (first-in (now (s .args .tape)) (s .pre .0) (m .read2 .given .1), s .pre .1, s .pre .2)
+
+returns : tie.Need-returns
+unfolding readThen
+returns c =
+    let a = c .before .before .before .before .before .args in
+    read-gives (now (a .tape)) (now (a .table)) (a .set) (now (a .buf)) (c .before .read .given .1) (none-begun _ _ (now (a .buf)))
+
+same-length : tie.Need-same-length
+same-length c = search needs
+
+returns-2 : tie.Need-returns-2
+unfolding readThen
+returns-2 c =
+    let a = c .before .before .before .before .before .before .before .before .before .before .args in
+    read-gives (now (a .tape)) (now (a .table)) (a .set) (now (a .buf)) (c .before .before .before .before .before .before .read2 .given .1) (c .before .before .run-main .ensures)
+
+pub run-read-spec : {M : Type 1} → statement M
+run-read-spec =
+    tie.close
+    (tie.spec
+    enum-known-read
+    enum-known-read-2
+    slice-aggregate-lines
+    run-main-requires
+    returns
+    same-length
+    returns-2)
