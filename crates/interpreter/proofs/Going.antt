@@ -28,7 +28,7 @@ use Rattle.steps.specs.declared.step.Run.{Run}
 use Rattle.interpreter.specs.declared.run.How.{How}
 use Rattle.interpreter.specs.declared.run.How.the-variants.{Returned, Ended, Stopped}
 use Rattle.interpreter.specs.declared.run.Outcome.{Outcome}
-use Rattle.interpreter.specs.Runs.{Ran, ran, recordsOf, pre, goBack, andThen, goOn, onward, blocks, blocksInAll, repeated, called, programRun, Took, RanMeets}
+use Rattle.interpreter.specs.Runs.{Ran, ran, recordsOf, pre, goBack, andThen, goOn, onward, blocks, blocksInAll, enough as spare, repeated, called, programRun, Took, RanMeets}
 use Rattle.interpreter.proofs.run.How.{the-type}
 
 -- ---- written
