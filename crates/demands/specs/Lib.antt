@@ -1,0 +1,2 @@
+-- The statements of this crate.
+pub mod Table

@@ -1,0 +1,195 @@
+-- 01, "Pieces that must come out so": P1 to P10 as a single table. Cases by tape go through all definitions, with the settings of `listmoves`; places on a tape count from 0.
+use mathlib.Core.Bool.{Bool, true, false, cond, _&&_}
+use mathlib.Core.List.{List, [], _∷_, _++_}
+use Prim.Native.Nat.{ℕ}
+use Prim.Native.String.{String}
+use lib.Dec.{eqb}
+use lib.IntN.{ℤ, pos, negsuc}
+use lib.Signed.{leZ}
+use lib.ListN.{replicate}
+use Rattle.whole.specs.Division.{count, pieces}
+use Rattle.moves.specs.Kinds.{rapid, feed, miscellaneous, tool}
+use Rattle.moves.specs.declared.record.Record.{Record}
+use Rattle.tape.specs.Text.{bytes}
+use Rattle.tape.specs.Words.{nextWord}
+use Rattle.tape.specs.declared.word.Next.{Next}
+use Rattle.tape.specs.declared.word.Next.the-variants as next
+use Rattle.machine.specs.declared.run.Settings.{Settings}
+use Rattle.interpreter.specs.Answers.{numberOf, placeOf, countOf, Result, whole}
+use Rattle.interpreter.specs.Runs.{recordsOf}
+
+-- "with main 1, lowest subroutine 80, retract 500, start X 60000 Z 50000, limits -200000 to 200000, table zero"
+abbrev pub listmoves : Settings
+listmoves = record {
+  main = 1;
+  lowest = 80;
+  retract = 500;
+  x = pos 60000;
+  z = pos 50000;
+  limits = record { x = record { lowest = negsuc 199999; highest = pos 200000 }; z = record { lowest = negsuc 199999; highest = pos 200000 } };
+}
+
+abbrev pub zeros : List ℤ
+zeros = replicate 208 (pos 0)
+
+-- what comes of a tape, in a buffer of 64,008 bytes
+abbrev pub comesOf : String → Result
+comesOf text = whole (bytes text) zeros listmoves 64_008
+
+-- ---- one question each
+pub data Case : Type 0 where
+  -- a length, the greatest piece, the pieces
+  divides : ℕ → ℕ → List ℕ → Case
+  -- a word, and its value
+  reads : String → ℤ → Case
+  -- a tape, and its alarm: number, place, records written
+  alarms : String → ℕ → ℕ → ℕ → Case
+  -- a tape, and the records of its complete list
+  lists : String → List Record → Case
+
+-- ---- whether it holds
+abbrev sameZ : ℤ → ℤ → Bool
+sameZ a b = leZ a b && leZ b a
+
+abbrev same : List ℕ → List ℕ → Bool
+same [] [] = true
+same [] (y ∷ ys) = false
+same (x ∷ xs) [] = false
+same (x ∷ xs) (y ∷ ys) = eqb x y && same xs ys
+
+abbrev sameRecord : Record → Record → Bool
+sameRecord r s = (eqb (r .kind) (s .kind) && eqb (r .flags) (s .flags)) && ((sameZ (r .x) (s .x) && sameZ (r .z) (s .z)) && eqb (r .value) (s .value))
+
+abbrev sameRecords : List Record → List Record → Bool
+sameRecords [] [] = true
+sameRecords [] (s ∷ ss) = false
+sameRecords (r ∷ rs) [] = false
+sameRecords (r ∷ rs) (s ∷ ss) = sameRecord r s && sameRecords rs ss
+
+abbrev isValue : Next → ℤ → Bool
+isValue (next.Word w end) v = sameZ (w .value) v
+isValue next.End v = false
+isValue next.Fault v = false
+
+abbrev givesAlarm : Result → ℕ → ℕ → ℕ → Bool
+givesAlarm x n p k = (eqb (numberOf (x .answer)) n && eqb (placeOf (x .answer)) p) && eqb (countOf (x .answer)) k
+
+abbrev givesList : Result → List Record → Bool
+givesList x rs = eqb (numberOf (x .answer)) 0 && sameRecords (recordsOf (x .steps)) rs
+
+abbrev pub holds : Case → Bool
+holds (divides e d row) = same (pieces e (count e d)) row
+holds (reads text v) = isValue (nextWord (bytes text) 0) v
+holds (alarms text n p k) = givesAlarm (comesOf text) n p k
+holds (lists text rs) = givesList (comesOf text) rs
+
+abbrev pub allHold : List Case → Bool
+allHold [] = true
+allHold (c ∷ cs) = holds c && allHold cs
+
+-- ---- the table
+-- P6: "plunges at Z -24, -26.5, -29; depth four of 2,667 and two of 2,666 (diameter); 39 records"
+abbrev grooves : List Record
+grooves =
+        feed (pos 39333) (negsuc 23999) 120 true
+        ∷ rapid (pos 40333) (negsuc 23999)
+        ∷ feed (pos 36666) (negsuc 23999) 120 true
+        ∷ rapid (pos 37666) (negsuc 23999)
+        ∷ feed (pos 33999) (negsuc 23999) 120 true
+        ∷ rapid (pos 34999) (negsuc 23999)
+        ∷ feed (pos 31332) (negsuc 23999) 120 true
+        ∷ rapid (pos 32332) (negsuc 23999)
+        ∷ feed (pos 28666) (negsuc 23999) 120 true
+        ∷ rapid (pos 29666) (negsuc 23999)
+        ∷ feed (pos 26000) (negsuc 23999) 120 true
+        ∷ rapid (pos 42000) (negsuc 23999)
+        ∷ rapid (pos 42000) (negsuc 26499)
+        ∷ feed (pos 39333) (negsuc 26499) 120 true
+        ∷ rapid (pos 40333) (negsuc 26499)
+        ∷ feed (pos 36666) (negsuc 26499) 120 true
+        ∷ rapid (pos 37666) (negsuc 26499)
+        ∷ feed (pos 33999) (negsuc 26499) 120 true
+        ∷ rapid (pos 34999) (negsuc 26499)
+        ∷ feed (pos 31332) (negsuc 26499) 120 true
+        ∷ rapid (pos 32332) (negsuc 26499)
+        ∷ feed (pos 28666) (negsuc 26499) 120 true
+        ∷ rapid (pos 29666) (negsuc 26499)
+        ∷ feed (pos 26000) (negsuc 26499) 120 true
+        ∷ rapid (pos 42000) (negsuc 26499)
+        ∷ rapid (pos 42000) (negsuc 28999)
+        ∷ feed (pos 39333) (negsuc 28999) 120 true
+        ∷ rapid (pos 40333) (negsuc 28999)
+        ∷ feed (pos 36666) (negsuc 28999) 120 true
+        ∷ rapid (pos 37666) (negsuc 28999)
+        ∷ feed (pos 33999) (negsuc 28999) 120 true
+        ∷ rapid (pos 34999) (negsuc 28999)
+        ∷ feed (pos 31332) (negsuc 28999) 120 true
+        ∷ rapid (pos 32332) (negsuc 28999)
+        ∷ feed (pos 28666) (negsuc 28999) 120 true
+        ∷ rapid (pos 29666) (negsuc 28999)
+        ∷ feed (pos 26000) (negsuc 28999) 120 true
+        ∷ rapid (pos 42000) (negsuc 28999)
+        ∷ rapid (pos 42000) (negsuc 23999)
+        ∷ []
+
+-- P7: "X 30, 26, 22; Z -0.75, -2.5, -4.25, -6"
+abbrev faced : List Record
+faced =
+        feed (pos 30000) (negsuc 749) 120 true
+        ∷ rapid (pos 30000) (negsuc 249)
+        ∷ feed (pos 30000) (negsuc 2499) 120 true
+        ∷ rapid (pos 30000) (negsuc 1999)
+        ∷ feed (pos 30000) (negsuc 4249) 120 true
+        ∷ rapid (pos 30000) (negsuc 3749)
+        ∷ feed (pos 30000) (negsuc 5999) 120 true
+        ∷ rapid (pos 30000) (pos 1000)
+        ∷ rapid (pos 26000) (pos 1000)
+        ∷ feed (pos 26000) (negsuc 749) 120 true
+        ∷ rapid (pos 26000) (negsuc 249)
+        ∷ feed (pos 26000) (negsuc 2499) 120 true
+        ∷ rapid (pos 26000) (negsuc 1999)
+        ∷ feed (pos 26000) (negsuc 4249) 120 true
+        ∷ rapid (pos 26000) (negsuc 3749)
+        ∷ feed (pos 26000) (negsuc 5999) 120 true
+        ∷ rapid (pos 26000) (pos 1000)
+        ∷ rapid (pos 22000) (pos 1000)
+        ∷ feed (pos 22000) (negsuc 749) 120 true
+        ∷ rapid (pos 22000) (negsuc 249)
+        ∷ feed (pos 22000) (negsuc 2499) 120 true
+        ∷ rapid (pos 22000) (negsuc 1999)
+        ∷ feed (pos 22000) (negsuc 4249) 120 true
+        ∷ rapid (pos 22000) (negsuc 3749)
+        ∷ feed (pos 22000) (negsuc 5999) 120 true
+        ∷ rapid (pos 22000) (pos 1000)
+        ∷ rapid (pos 30000) (pos 1000)
+        ∷ []
+
+abbrev pub table : List Case
+table =
+    -- P1 to P5
+    divides 10000 3000 (2500 ∷ 2500 ∷ 2500 ∷ 2500 ∷ [])
+    ∷ divides 10001 3000 (2501 ∷ 2500 ∷ 2500 ∷ 2500 ∷ [])
+    ∷ divides 10000 2500 (2500 ∷ 2500 ∷ 2500 ∷ 2500 ∷ [])
+    ∷ divides 10001 2500 (2001 ∷ 2000 ∷ 2000 ∷ 2000 ∷ 2000 ∷ [])
+    ∷ divides 1 1 (1 ∷ [])
+    -- P6 and P7
+    ∷ lists "%1\nN10 G00 X42. Z-24.\nN20 G86 X26. Z-32. D3=1500 D5=3000 F120\nN30 M30"
+      (rapid (pos 42000) (negsuc 23999) ∷ grooves ++ (miscellaneous (pos 42000) (negsuc 23999) 30 ∷ []))
+    ∷ lists "%1\nN10 G00 X30. Z1.\nN20 G86 Z-6. X16. D3=2000 D5=3000 F120\nN30 M30"
+      (rapid (pos 30000) (pos 1000) ∷ faced ++ (miscellaneous (pos 30000) (pos 1000) 30 ∷ []))
+    -- P8
+    ∷ reads "X40" (pos 40)
+    ∷ reads "X40." (pos 40000)
+    -- P9: from X40.4 to X40., Z2. to Z0
+    ∷ alarms "%1\nN10 G00 X40.4 Z2.\nN20 G84 X40. Z0 D0=400 F120\nN30 M30" 19 21 1
+    ∷ lists "%1\nN10 G00 X40.4 Z2.\nN20 G84 X40. Z0 D0=399 F120\nN30 M30"
+      (rapid (pos 40400) (pos 2000)
+      ∷ rapid (pos 40399) (pos 2000)
+      ∷ feed (pos 40399) (pos 0) 120 true
+      ∷ feed (pos 40400) (pos 0) 120 true
+      ∷ rapid (pos 40400) (pos 2000)
+      ∷ miscellaneous (pos 40400) (pos 2000) 30
+      ∷ [])
+    -- P10
+    ∷ alarms "%1\nN10 T0101\nN20 G01 X1.\nN30 M30" 16 13 1
+    ∷ []
