@@ -1,2 +1,5 @@
 -- The proofs of this crate.
 pub mod Table
+pub mod Linked
+pub mod Cycles
+pub mod Demands

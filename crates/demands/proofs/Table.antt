@@ -33,13 +33,13 @@ use Rattle.demands.specs.Table.{table, allHold}
 
 pub pieces-come-out : allHold table ≡ true
 unfolding count pieces inTable roomOf seek opensTape isFeed lineAt gapOf linesUp lines digitsOf unsignedPath pathOf digitsIn numberOf capital endsNumber kindOf numberWord
-  indexedWord wordAt nextWord wordsUp wordsFrom gCode mCode has anyFrom groupZeroIs callsOrJumps unknownNumber lateN afterProgram axisTwice lWordWrong moreThanL
-  dwellWithCall dwellWithPath allowanceWrong divisionWrong dwellWrong widthWrong otherPOrD dWordWrong axisMissing widthMissing broken brokenBy judged slotOf noWords isEnd
-  putWord isProgramAddress faultyRest gather headBy headOf lineOf programAt findProgram blockAt findBlock blockOfProgram headAlarm lineAlarm noted endsWith readLines readOf
-  rapidTo feedTo dwellAt outsideSpan outside anyOutside tooShort passCount passOn passes turning recordCount wrong stepCount steps cutCount cutting dwelling plunge plunges
-  grooving plungeCount recordCountGrooving codeIn motionBy blockMotion keep shiftBy shiftAfter flagAfter correctionAfter feedAfter dueAfter settled timesOf steered flowBy
-  nextOf pairOf correctionPair offsetOf sent targetX targetZ hasPath isFacing cycleOf grooveOf moveOf deedOf isTraverse isRapid feedWrong lengthWrong endsOutside deedRecords
-  isNowhere alarmOf sendingOf deedIn askedIn alarmIn doneRecords doneState oneIf speedOf toolOf mOf dwellOf speedAndTool spindleAndCoolant doing moved done stops stopping
-  writes others blockHere firstBlock calledAt jumpedTo lookedUp blockIn blockOn whatBy alarmBy alarmAt runAfter didAt recordsAt takenBy takenFrom answerBy resultOf mainBy
-  mainRun readThen whole recordsOf pre goBack andThen goOn onward blocks enough repeated called someOut spanWrong numbersWrong tableWrong settingsWrong
+    indexedWord wordAt nextWord wordsUp wordsFrom gCode mCode has anyFrom groupZeroIs callsOrJumps unknownNumber lateN afterProgram axisTwice lWordWrong moreThanL
+    dwellWithCall dwellWithPath allowanceWrong divisionWrong dwellWrong widthWrong otherPOrD dWordWrong axisMissing widthMissing broken brokenBy judged slotOf noWords isEnd
+    putWord isProgramAddress faultyRest gather headBy headOf lineOf programAt findProgram blockAt findBlock blockOfProgram headAlarm lineAlarm noted endsWith readLines readOf
+    rapidTo feedTo dwellAt outsideSpan outside anyOutside tooShort passCount passOn passes turning recordCount wrong stepCount steps cutCount cutting dwelling plunge plunges
+    grooving plungeCount recordCountGrooving codeIn motionBy blockMotion keep shiftBy shiftAfter flagAfter correctionAfter feedAfter dueAfter settled timesOf steered flowBy
+    nextOf pairOf correctionPair offsetOf sent targetX targetZ hasPath isFacing cycleOf grooveOf moveOf deedOf isTraverse isRapid feedWrong lengthWrong endsOutside deedRecords
+    isNowhere alarmOf sendingOf deedIn askedIn alarmIn doneRecords doneState oneIf speedOf toolOf mOf dwellOf speedAndTool spindleAndCoolant doing moved done stops stopping
+    writes others blockHere firstBlock calledAt jumpedTo lookedUp blockIn blockOn whatBy alarmBy alarmAt runAfter didAt recordsAt takenBy takenFrom answerBy resultOf mainBy
+    mainRun readThen whole recordsOf pre goBack andThen goOn onward blocks enough repeated called someOut spanWrong numbersWrong tableWrong settingsWrong
 pieces-come-out = refl

@@ -1,2 +1,4 @@
 -- The statements of this crate.
 pub mod Table
+pub mod Steps
+pub mod Demands

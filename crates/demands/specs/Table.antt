@@ -91,78 +91,78 @@ allHold (c ∷ cs) = holds c && allHold cs
 -- P6: "plunges at Z -24, -26.5, -29; depth four of 2,667 and two of 2,666 (diameter); 39 records"
 abbrev grooves : List Record
 grooves =
-        feed (pos 39333) (negsuc 23999) 120 true
-        ∷ rapid (pos 40333) (negsuc 23999)
-        ∷ feed (pos 36666) (negsuc 23999) 120 true
-        ∷ rapid (pos 37666) (negsuc 23999)
-        ∷ feed (pos 33999) (negsuc 23999) 120 true
-        ∷ rapid (pos 34999) (negsuc 23999)
-        ∷ feed (pos 31332) (negsuc 23999) 120 true
-        ∷ rapid (pos 32332) (negsuc 23999)
-        ∷ feed (pos 28666) (negsuc 23999) 120 true
-        ∷ rapid (pos 29666) (negsuc 23999)
-        ∷ feed (pos 26000) (negsuc 23999) 120 true
-        ∷ rapid (pos 42000) (negsuc 23999)
-        ∷ rapid (pos 42000) (negsuc 26499)
-        ∷ feed (pos 39333) (negsuc 26499) 120 true
-        ∷ rapid (pos 40333) (negsuc 26499)
-        ∷ feed (pos 36666) (negsuc 26499) 120 true
-        ∷ rapid (pos 37666) (negsuc 26499)
-        ∷ feed (pos 33999) (negsuc 26499) 120 true
-        ∷ rapid (pos 34999) (negsuc 26499)
-        ∷ feed (pos 31332) (negsuc 26499) 120 true
-        ∷ rapid (pos 32332) (negsuc 26499)
-        ∷ feed (pos 28666) (negsuc 26499) 120 true
-        ∷ rapid (pos 29666) (negsuc 26499)
-        ∷ feed (pos 26000) (negsuc 26499) 120 true
-        ∷ rapid (pos 42000) (negsuc 26499)
-        ∷ rapid (pos 42000) (negsuc 28999)
-        ∷ feed (pos 39333) (negsuc 28999) 120 true
-        ∷ rapid (pos 40333) (negsuc 28999)
-        ∷ feed (pos 36666) (negsuc 28999) 120 true
-        ∷ rapid (pos 37666) (negsuc 28999)
-        ∷ feed (pos 33999) (negsuc 28999) 120 true
-        ∷ rapid (pos 34999) (negsuc 28999)
-        ∷ feed (pos 31332) (negsuc 28999) 120 true
-        ∷ rapid (pos 32332) (negsuc 28999)
-        ∷ feed (pos 28666) (negsuc 28999) 120 true
-        ∷ rapid (pos 29666) (negsuc 28999)
-        ∷ feed (pos 26000) (negsuc 28999) 120 true
-        ∷ rapid (pos 42000) (negsuc 28999)
-        ∷ rapid (pos 42000) (negsuc 23999)
-        ∷ []
+    feed (pos 39333) (negsuc 23999) 120 true
+    ∷ rapid (pos 40333) (negsuc 23999)
+    ∷ feed (pos 36666) (negsuc 23999) 120 true
+    ∷ rapid (pos 37666) (negsuc 23999)
+    ∷ feed (pos 33999) (negsuc 23999) 120 true
+    ∷ rapid (pos 34999) (negsuc 23999)
+    ∷ feed (pos 31332) (negsuc 23999) 120 true
+    ∷ rapid (pos 32332) (negsuc 23999)
+    ∷ feed (pos 28666) (negsuc 23999) 120 true
+    ∷ rapid (pos 29666) (negsuc 23999)
+    ∷ feed (pos 26000) (negsuc 23999) 120 true
+    ∷ rapid (pos 42000) (negsuc 23999)
+    ∷ rapid (pos 42000) (negsuc 26499)
+    ∷ feed (pos 39333) (negsuc 26499) 120 true
+    ∷ rapid (pos 40333) (negsuc 26499)
+    ∷ feed (pos 36666) (negsuc 26499) 120 true
+    ∷ rapid (pos 37666) (negsuc 26499)
+    ∷ feed (pos 33999) (negsuc 26499) 120 true
+    ∷ rapid (pos 34999) (negsuc 26499)
+    ∷ feed (pos 31332) (negsuc 26499) 120 true
+    ∷ rapid (pos 32332) (negsuc 26499)
+    ∷ feed (pos 28666) (negsuc 26499) 120 true
+    ∷ rapid (pos 29666) (negsuc 26499)
+    ∷ feed (pos 26000) (negsuc 26499) 120 true
+    ∷ rapid (pos 42000) (negsuc 26499)
+    ∷ rapid (pos 42000) (negsuc 28999)
+    ∷ feed (pos 39333) (negsuc 28999) 120 true
+    ∷ rapid (pos 40333) (negsuc 28999)
+    ∷ feed (pos 36666) (negsuc 28999) 120 true
+    ∷ rapid (pos 37666) (negsuc 28999)
+    ∷ feed (pos 33999) (negsuc 28999) 120 true
+    ∷ rapid (pos 34999) (negsuc 28999)
+    ∷ feed (pos 31332) (negsuc 28999) 120 true
+    ∷ rapid (pos 32332) (negsuc 28999)
+    ∷ feed (pos 28666) (negsuc 28999) 120 true
+    ∷ rapid (pos 29666) (negsuc 28999)
+    ∷ feed (pos 26000) (negsuc 28999) 120 true
+    ∷ rapid (pos 42000) (negsuc 28999)
+    ∷ rapid (pos 42000) (negsuc 23999)
+    ∷ []
 
 -- P7: "X 30, 26, 22; Z -0.75, -2.5, -4.25, -6"
 abbrev faced : List Record
 faced =
-        feed (pos 30000) (negsuc 749) 120 true
-        ∷ rapid (pos 30000) (negsuc 249)
-        ∷ feed (pos 30000) (negsuc 2499) 120 true
-        ∷ rapid (pos 30000) (negsuc 1999)
-        ∷ feed (pos 30000) (negsuc 4249) 120 true
-        ∷ rapid (pos 30000) (negsuc 3749)
-        ∷ feed (pos 30000) (negsuc 5999) 120 true
-        ∷ rapid (pos 30000) (pos 1000)
-        ∷ rapid (pos 26000) (pos 1000)
-        ∷ feed (pos 26000) (negsuc 749) 120 true
-        ∷ rapid (pos 26000) (negsuc 249)
-        ∷ feed (pos 26000) (negsuc 2499) 120 true
-        ∷ rapid (pos 26000) (negsuc 1999)
-        ∷ feed (pos 26000) (negsuc 4249) 120 true
-        ∷ rapid (pos 26000) (negsuc 3749)
-        ∷ feed (pos 26000) (negsuc 5999) 120 true
-        ∷ rapid (pos 26000) (pos 1000)
-        ∷ rapid (pos 22000) (pos 1000)
-        ∷ feed (pos 22000) (negsuc 749) 120 true
-        ∷ rapid (pos 22000) (negsuc 249)
-        ∷ feed (pos 22000) (negsuc 2499) 120 true
-        ∷ rapid (pos 22000) (negsuc 1999)
-        ∷ feed (pos 22000) (negsuc 4249) 120 true
-        ∷ rapid (pos 22000) (negsuc 3749)
-        ∷ feed (pos 22000) (negsuc 5999) 120 true
-        ∷ rapid (pos 22000) (pos 1000)
-        ∷ rapid (pos 30000) (pos 1000)
-        ∷ []
+    feed (pos 30000) (negsuc 749) 120 true
+    ∷ rapid (pos 30000) (negsuc 249)
+    ∷ feed (pos 30000) (negsuc 2499) 120 true
+    ∷ rapid (pos 30000) (negsuc 1999)
+    ∷ feed (pos 30000) (negsuc 4249) 120 true
+    ∷ rapid (pos 30000) (negsuc 3749)
+    ∷ feed (pos 30000) (negsuc 5999) 120 true
+    ∷ rapid (pos 30000) (pos 1000)
+    ∷ rapid (pos 26000) (pos 1000)
+    ∷ feed (pos 26000) (negsuc 749) 120 true
+    ∷ rapid (pos 26000) (negsuc 249)
+    ∷ feed (pos 26000) (negsuc 2499) 120 true
+    ∷ rapid (pos 26000) (negsuc 1999)
+    ∷ feed (pos 26000) (negsuc 4249) 120 true
+    ∷ rapid (pos 26000) (negsuc 3749)
+    ∷ feed (pos 26000) (negsuc 5999) 120 true
+    ∷ rapid (pos 26000) (pos 1000)
+    ∷ rapid (pos 22000) (pos 1000)
+    ∷ feed (pos 22000) (negsuc 749) 120 true
+    ∷ rapid (pos 22000) (negsuc 249)
+    ∷ feed (pos 22000) (negsuc 2499) 120 true
+    ∷ rapid (pos 22000) (negsuc 1999)
+    ∷ feed (pos 22000) (negsuc 4249) 120 true
+    ∷ rapid (pos 22000) (negsuc 3749)
+    ∷ feed (pos 22000) (negsuc 5999) 120 true
+    ∷ rapid (pos 22000) (pos 1000)
+    ∷ rapid (pos 30000) (pos 1000)
+    ∷ []
 
 abbrev pub table : List Case
 table =
@@ -174,22 +174,22 @@ table =
     ∷ divides 1 1 (1 ∷ [])
     -- P6 and P7
     ∷ lists "%1\nN10 G00 X42. Z-24.\nN20 G86 X26. Z-32. D3=1500 D5=3000 F120\nN30 M30"
-      (rapid (pos 42000) (negsuc 23999) ∷ grooves ++ (miscellaneous (pos 42000) (negsuc 23999) 30 ∷ []))
+    (rapid (pos 42000) (negsuc 23999) ∷ grooves ++ (miscellaneous (pos 42000) (negsuc 23999) 30 ∷ []))
     ∷ lists "%1\nN10 G00 X30. Z1.\nN20 G86 Z-6. X16. D3=2000 D5=3000 F120\nN30 M30"
-      (rapid (pos 30000) (pos 1000) ∷ faced ++ (miscellaneous (pos 30000) (pos 1000) 30 ∷ []))
+    (rapid (pos 30000) (pos 1000) ∷ faced ++ (miscellaneous (pos 30000) (pos 1000) 30 ∷ []))
     -- P8
     ∷ reads "X40" (pos 40)
     ∷ reads "X40." (pos 40000)
     -- P9: from X40.4 to X40., Z2. to Z0
     ∷ alarms "%1\nN10 G00 X40.4 Z2.\nN20 G84 X40. Z0 D0=400 F120\nN30 M30" 19 21 1
     ∷ lists "%1\nN10 G00 X40.4 Z2.\nN20 G84 X40. Z0 D0=399 F120\nN30 M30"
-      (rapid (pos 40400) (pos 2000)
-      ∷ rapid (pos 40399) (pos 2000)
-      ∷ feed (pos 40399) (pos 0) 120 true
-      ∷ feed (pos 40400) (pos 0) 120 true
-      ∷ rapid (pos 40400) (pos 2000)
-      ∷ miscellaneous (pos 40400) (pos 2000) 30
-      ∷ [])
+    (rapid (pos 40400) (pos 2000)
+    ∷ rapid (pos 40399) (pos 2000)
+    ∷ feed (pos 40399) (pos 0) 120 true
+    ∷ feed (pos 40400) (pos 0) 120 true
+    ∷ rapid (pos 40400) (pos 2000)
+    ∷ miscellaneous (pos 40400) (pos 2000) 30
+    ∷ [])
     -- P10
     ∷ alarms "%1\nN10 T0101\nN20 G01 X1.\nN30 M30" 16 13 1
     ∷ []

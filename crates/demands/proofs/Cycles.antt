@@ -1,0 +1,40 @@
+-- Demand 3 along the chain of a run's steps: each G84 that was done keeps its promise, in calls and repeats too; and the count of records goes with the steps.
+-- Assumes nothing.
+use mathlib.Core.Path.{_≡_, sym, ap, subst}
+use mathlib.Core.List.{List, [], _∷_}
+use Prim.Native.Nat.{_+_, _-_}
+use native.Mathlib.Omega.{arith}
+use lib.ListN.{length, length-append}
+use Rattle.moves.specs.declared.record.Record.{Record}
+use Rattle.turning.specs.Turned.{Turned}
+use Rattle.machine.specs.Blocks.{doneRecords}
+use Rattle.machine.specs.Opens.{cycleIn}
+use Rattle.machine.proofs.Opening.{block-turned}
+use Rattle.steps.specs.Steps.{Task, Step, blockOn, runAfter}
+use Rattle.steps.specs.declared.step.Run.{Run}
+use Rattle.interpreter.specs.Runs.{recordsOf, called}
+use Rattle.demands.specs.Steps.{Done, Linked}
+use Rattle.demands.specs.Demands.{Each, Cut, EveryCycle}
+use Rattle.demands.proofs.Linked.{free-own, called-leads}
+
+-- one step that was done
+cut : (t : Task) (r : Run) (st : Step) → Done t r st → Cut t st
+cut t r st d opens =
+    let b = blockOn (t .tape) (st .place) in
+    let well = free-own t (d .program) (d .calls) (called t 0) (λ p n u. called-leads t 0 p n u) (st .place) r (d .free) in
+    let turned = block-turned (t .table) (t .settings) (r .state) b opens (t .room - r .count) well in
+    subst (λ (v : List Record). Turned (cycleIn (t .table) (t .settings) (st .before .state) b) v) (sym (d .wrote))
+    (subst (λ (q : Run). Turned (cycleIn (t .table) (t .settings) (q .state) b) (doneRecords (t .table) (t .settings) (r .state) b)) (sym (d .begun)) turned)
+
+pub every-cycle : (t : Task) (sts : List Step) (r s : Run) → Linked t r sts s → EveryCycle t sts
+unfolding Linked Each
+every-cycle t [] r s l = tt
+every-cycle t (st ∷ sts) r s l = (cut t r st (l .0), every-cycle t sts (runAfter t (st .place) r) s (l .1))
+
+-- the records written by the end are those before and those of the steps
+pub counted : (t : Task) (sts : List Step) (r s : Run) → Linked t r sts s → s .count ≡ r .count + length (recordsOf sts)
+unfolding Linked recordsOf runAfter
+counted t [] r s l = omega (arith, ap (λ (q : Run). q .count) l)
+counted t (st ∷ sts) r s l =
+    let rest = counted t sts (runAfter t (st .place) r) s (l .1) in
+    omega (arith, rest, length-append (st .records) (recordsOf sts), ap length (l .0 .wrote))

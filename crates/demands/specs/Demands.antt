@@ -1,0 +1,49 @@
+-- THE DEMANDS. Demand 3: "In every G84 that a run opens with a division above zero: the pass depths add up exactly to the infeed less the allowance, none is above the division, no row within the
+-- division with that sum is shorter, none equally short has a smaller greatest depth. With or without a division no feed move of the cycle goes past the allowance in either axis." Which cycles
+-- a run opened is read off the tape and the state before each step; the depths are read off the records that the step wrote.
+use mathlib.Core.Path.{_≡_}
+use mathlib.Core.Bool.{true}
+use mathlib.Core.List.{List, [], _∷_}
+use Prim.Native.Nat.{ℕ}
+use lib.IntN.{ℤ}
+use lib.ListN.{length, take}
+use Rattle.reading.specs.Reading.{readOf}
+use Rattle.reading.specs.declared.read.Read.{Read}
+use Rattle.reading.specs.declared.read.Read.the-variants as read
+use Rattle.turning.specs.Turned.{Turned}
+use Rattle.machine.specs.Opens.{opensTurning, cycleIn}
+use Rattle.machine.specs.declared.run.Settings.{Settings}
+use Rattle.steps.specs.Steps.{Task, taskOf, Step, blockOn}
+use Rattle.interpreter.specs.Answers.{countOf, whole, answerOf}
+use Rattle.interpreter.specs.Runs.{recordsOf}
+
+-- P of each step
+unfoldable pub Each : (Step → Type 0) → List Step → Type 0
+Each P [] = Unit {0}
+Each P (st ∷ sts) = P st × Each P sts
+
+-- a step whose block is a G84 keeps the promise of the cycle that its words open in the state before it
+abbrev pub Cut : Task → Step → Type 0
+Cut t st =
+    opensTurning (blockOn (t .tape) (st .place)) ≡ true
+    → Turned (cycleIn (t .table) (t .settings) (st .before .state) (blockOn (t .tape) (st .place))) (st .records)
+
+-- every G84 of some steps
+abbrev pub EveryCycle : Task → List Step → Type 0
+EveryCycle t sts = Each (Cut t) sts
+
+-- what a run of the tape is given: the tape up to where reading ended; nothing where an alarm came before
+abbrev pub readTask : List ℕ → List ℤ → Settings → ℕ → Read → Task
+readTask tape table set bytes (read.Whole first end) = taskOf (take end tape) table set first bytes
+readTask tape table set bytes (read.Alarm alarm place) = taskOf [] table set 0 bytes
+
+abbrev pub task : List ℕ → List ℤ → Settings → ℕ → Task
+task tape table set bytes = readTask tape table set bytes (readOf tape)
+
+-- DEMAND 3, of every tape, table and settings, and every length of the buffer: every G84 that the run opened, with a division or without, in the main program, in subprograms and in repeats
+abbrev pub DemandThree : List ℕ → List ℤ → Settings → ℕ → Type 0
+DemandThree tape table set bytes = EveryCycle (task tape table set bytes) (whole tape table set bytes .steps)
+
+-- OF DEMANDS 1 AND 2: the count that the answer gives, and that the header gives where there is one, is the number of records that were written
+abbrev pub CountIsWritten : List ℕ → List ℤ → Settings → ℕ → Type 0
+CountIsWritten tape table set bytes = countOf (answerOf tape table set bytes) ≡ length (recordsOf (whole tape table set bytes .steps))
