@@ -9,6 +9,7 @@ use lib.Dec.{eqb}
 use lib.IntN.{ℤ, pos, natAbs}
 use lib.ListN.{length, getD, set, replicate}
 use Rattle.whole.specs.Position.{inTable}
+use Rattle.whole.proofs.Integers.{whole, abs}
 use Rattle.whole.proofs.Positions.{InTable, in-table}
 use Rattle.tape.specs.Letters.{letterD, letterF, letterG, letterL, letterM, letterN, letterP, letterS, letterT, letterU, letterW, letterX, letterZ}
 use Rattle.tape.specs.Words.{Words, word, ended, faulty, onward, kindOf, nextWord, wordsUp, wordsFrom}
@@ -32,32 +33,39 @@ use Rattle.block.proofs.Tables.{CodeIn, m-groups}
 record Holds (k : ℕ) (z : ℤ) : Type 0 where
   path : k ≤ 3 → inTable z ≡ true
   setting : dFirst ≤ k → k < dFirst + 10 → natAbs z < 32_768
+  any : natAbs z < 10_000_000
 
 abbrev SlotHolds : Slot → ℤ → Type 0
 SlotHolds (At k) z = Holds k z
 SlotHolds Late z = Unit {0}
 SlotHolds Unknown z = Unit {0}
 
+path-small : (z : ℤ) → InTable z → natAbs z < 10_000_000
+path-small z h = omega (whole, abs z, h .low, h .high)
+
 -- a slot of X Z U W, one of D, and one of neither
 path-holds : (k : ℕ) (z : ℤ) → k ≤ 3 → InTable z → Holds k z
-path-holds k z l h = record { path = λ _. in-table z h; setting = λ a _. absurd (omega (arith, l, a)) }
+path-holds k z l h = record { path = λ _. in-table z h; setting = λ a _. absurd (omega (arith, l, a)); any = path-small z h }
 
 setting-holds : (k : ℕ) (z : ℤ) → dFirst ≤ k → natAbs z < 32_768 → Holds k z
-setting-holds k z l h = record { path = λ a. absurd (omega (arith, l, a)); setting = λ _ _. h }
+setting-holds k z l h = record { path = λ a. absurd (omega (arith, l, a)); setting = λ _ _. h; any = omega arith }
 
-other-below : (k : ℕ) (z : ℤ) → 4 ≤ k → k < dFirst → Holds k z
-other-below k z l h = record { path = λ a. absurd (omega (arith, l, a)); setting = λ a _. absurd (omega (arith, h, a)) }
+other-below : (k : ℕ) (z : ℤ) → 4 ≤ k → k < dFirst → natAbs z < 10_000_000 → Holds k z
+other-below k z l h s = record { path = λ a. absurd (omega (arith, l, a)); setting = λ a _. absurd (omega (arith, h, a)); any = s }
 
-other-above : (k : ℕ) (z : ℤ) → dFirst + 10 ≤ k → Holds k z
-other-above k z h = record { path = λ a. absurd (omega (arith, h, a)); setting = λ _ a. absurd (omega (arith, h, a)) }
+other-above : (k : ℕ) (z : ℤ) → dFirst + 10 ≤ k → natAbs z < 10_000_000 → Holds k z
+other-above k z h s = record { path = λ a. absurd (omega (arith, h, a)); setting = λ _ a. absurd (omega (arith, h, a)); any = s }
 
-g-holds : (c : Code) (z : ℤ) → SlotHolds (codeSlot c gFirst) z
-g-holds (code.Of g m) z = other-above (gFirst + g) z (omega arith)
-g-holds code.Unknown z = tt
+g-holds : (c : Code) (z : ℤ) → natAbs z < 10_000_000 → SlotHolds (codeSlot c gFirst) z
+g-holds (code.Of g m) z s = other-above (gFirst + g) z (omega arith) s
+g-holds code.Unknown z s = tt
 
-m-holds : (c : Code) (z : ℤ) → CodeIn c 4 → SlotHolds (codeSlot c mFirst) z
-m-holds (code.Of g m) z h = other-below (mFirst + g) z (omega arith) (omega arith)
-m-holds code.Unknown z h = tt
+m-holds : (c : Code) (z : ℤ) → natAbs z < 10_000_000 → CodeIn c 4 → SlotHolds (codeSlot c mFirst) z
+m-holds (code.Of g m) z s h = other-below (mFirst + g) z (omega arith) (omega arith) s
+m-holds code.Unknown z s h = tt
+
+few : (z : ℤ) {n : ℕ} → natAbs z < n → n ≤ 10_000_000 → natAbs z < 10_000_000
+few z h l = omega (arith, h, l)
 
 slot-holds : (w : Word) → WordIn w → SlotHolds (slotOf w) (w .value)
 unfolding slotOf kindOf
@@ -69,14 +77,14 @@ slot-holds w i =
     (cond-ind P (eqb a letterZ) _ _ (λ t. path-holds 1 z (omega arith) (taken w letterZ i (eqb-is a letterZ t)))
     (cond-ind P (eqb a letterU) _ _ (λ t. path-holds 2 z (omega arith) (taken w letterU i (eqb-is a letterU t)))
     (cond-ind P (eqb a letterW) _ _ (λ t. path-holds 3 z (omega arith) (taken w letterW i (eqb-is a letterW t)))
-    (cond-ind P (eqb a letterF) _ _ (λ _. other-below 4 z (omega arith) (omega arith))
-    (cond-ind P (eqb a letterS) _ _ (λ _. other-below 5 z (omega arith) (omega arith))
-    (cond-ind P (eqb a letterT) _ _ (λ _. other-below 6 z (omega arith) (omega arith))
-    (cond-ind P (eqb a letterL) _ _ (λ _. other-above 31 z (omega arith))
-    (cond-ind P (eqb a letterP) _ _ (λ _. other-below (pFirst + w .index) z (omega arith) (omega (arith, i .index)))
+    (cond-ind P (eqb a letterF) _ _ (λ t. other-below 4 z (omega arith) (omega arith) (few z (size-below (taken w letterF i (eqb-is a letterF t))) (omega arith)))
+    (cond-ind P (eqb a letterS) _ _ (λ t. other-below 5 z (omega arith) (omega arith) (few z (size-below (taken w letterS i (eqb-is a letterS t))) (omega arith)))
+    (cond-ind P (eqb a letterT) _ _ (λ t. other-below 6 z (omega arith) (omega arith) (few z (size-below (taken w letterT i (eqb-is a letterT t))) (omega arith)))
+    (cond-ind P (eqb a letterL) _ _ (λ t. other-above 31 z (omega arith) (few z (size-below (taken w letterL i (eqb-is a letterL t))) (omega arith)))
+    (cond-ind P (eqb a letterP) _ _ (λ t. other-below (pFirst + w .index) z (omega arith) (omega (arith, i .index)) (path-small z (taken w letterP i (eqb-is a letterP t))))
     (cond-ind P (eqb a letterD) _ _ (λ t. setting-holds (dFirst + w .index) z (omega arith) (size-below (taken w letterD i (eqb-is a letterD t))))
-    (cond-ind P (eqb a letterG) _ _ (λ _. g-holds (gCode (numberIn w)) z)
-    (cond-ind P (eqb a letterM) _ _ (λ _. m-holds (mCode (numberIn w)) z (m-groups (numberIn w)))
+    (cond-ind P (eqb a letterG) _ _ (λ t. g-holds (gCode (numberIn w)) z (few z (size-below (taken w letterG i (eqb-is a letterG t))) (omega arith)))
+    (cond-ind P (eqb a letterM) _ _ (λ t. m-holds (mCode (numberIn w)) z (few z (size-below (taken w letterM i (eqb-is a letterM t))) (omega arith)) (m-groups (numberIn w)))
     (cond-ind P (eqb a letterN) _ _ (λ _. tt) tt))))))))))))
 
 -- ---- a block whose slots hold what they may
@@ -85,7 +93,7 @@ Held zs = (k : ℕ) → Holds k (getD zs k (pos 0))
 
 zero-holds : (k : ℕ) → Holds k (pos 0)
 unfolding inTable
-zero-holds k = record { path = λ _. refl; setting = λ _ _. omega arith }
+zero-holds k = record { path = λ _. refl; setting = λ _ _. omega arith; any = omega arith }
 
 zeros : (n k : ℕ) → getD (replicate n (pos 0)) k (pos 0) ≡ pos 0
 zeros zero zero = refl
@@ -147,4 +155,4 @@ pub worded : (s : List ℕ) → Worded (lineOf s .block)
 unfolding lineOf
 worded s =
     let h = line-held s (nextWord s 0) in
-    record { paths = λ k l. h k .path l; settings = λ i l. h (dFirst + i) .setting (omega arith) (omega (arith, l)) }
+    record { paths = λ k l. h k .path l; each = λ k. h k .any; settings = λ i l. h (dFirst + i) .setting (omega arith) (omega (arith, l)) }

@@ -3,3 +3,5 @@ pub mod Table
 pub mod Linked
 pub mod Cycles
 pub mod Demands
+pub mod Fits
+pub mod Buffers

@@ -4,9 +4,10 @@
 use mathlib.Core.Path.{_≡_}
 use mathlib.Core.Bool.{true}
 use mathlib.Core.List.{List, [], _∷_}
-use Prim.Native.Nat.{ℕ}
+use Prim.Native.Nat.{ℕ, _+_}
 use lib.IntN.{ℤ}
 use lib.ListN.{length, take}
+use Rattle.moves.specs.Reading.{recordsIn}
 use Rattle.reading.specs.Reading.{readOf}
 use Rattle.reading.specs.declared.read.Read.{Read}
 use Rattle.reading.specs.declared.read.Read.the-variants as read
@@ -14,7 +15,7 @@ use Rattle.turning.specs.Turned.{Turned}
 use Rattle.machine.specs.Opens.{opensTurning, cycleIn}
 use Rattle.machine.specs.declared.run.Settings.{Settings}
 use Rattle.steps.specs.Steps.{Task, taskOf, Step, blockOn}
-use Rattle.interpreter.specs.Answers.{countOf, whole, answerOf}
+use Rattle.interpreter.specs.Answers.{countOf, whole, answerOf, bufferOf}
 use Rattle.interpreter.specs.Runs.{recordsOf}
 
 -- P of each step
@@ -43,6 +44,21 @@ task tape table set bytes = readTask tape table set bytes (readOf tape)
 -- DEMAND 3, of every tape, table and settings, and every length of the buffer: every G84 that the run opened, with a division or without, in the main program, in subprograms and in repeats
 abbrev pub DemandThree : List ℕ → List ℤ → Settings → ℕ → Type 0
 DemandThree tape table set bytes = EveryCycle (task tape table set bytes) (whole tape table set bytes .steps)
+
+-- the same, with the records read off the bytes e of the buffer: the step's records stand there from number k on
+unfoldable pub EachFrom : (Step → ℕ → Type 0) → ℕ → List Step → Type 0
+EachFrom P k [] = Unit {0}
+EachFrom P k (st ∷ sts) = P st k × EachFrom P (k + length (st .records)) sts
+
+abbrev pub CutIn : Task → List ℕ → Step → ℕ → Type 0
+CutIn t e st k =
+    opensTurning (blockOn (t .tape) (st .place)) ≡ true
+    → Turned (cycleIn (t .table) (t .settings) (st .before .state) (blockOn (t .tape) (st .place))) (recordsIn e k (length (st .records)))
+
+-- DEMAND 3, of every tape, table, settings and buffer b, said of the bytes that are in the buffer after the run
+abbrev pub DemandThreeInBuffer : List ℕ → List ℤ → Settings → List ℕ → Type 0
+DemandThreeInBuffer tape table set b =
+    EachFrom (CutIn (task tape table set (length b)) (bufferOf tape table set b)) 0 (whole tape table set (length b) .steps)
 
 -- OF DEMANDS 1 AND 2: the count that the answer gives, and that the header gives where there is one, is the number of records that were written
 abbrev pub CountIsWritten : List ℕ → List ℤ → Settings → ℕ → Type 0

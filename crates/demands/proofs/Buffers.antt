@@ -1,0 +1,164 @@
+-- Demand 3 off the bytes of the buffer: the records of each step are read where they were written.
+-- Assumes nothing.
+use mathlib.Core.Path.{_≡_, refl, sym, ap, _∙_, subst}
+use mathlib.Core.Bool.{Bool, true, false, cond}
+use mathlib.Core.List.{List, [], _∷_, _++_, append-assoc, append-nil}
+use Prim.Native.Nat.{ℕ, _+_, _-_, _<_, _≤_}
+use native.Mathlib.Omega.{arith}
+use lib.Dec.{ltb}
+use lib.IntN.{ℤ}
+use lib.ListN.{length, take, drop, length-append}
+use lib.Seq.{length-take-le, drop-at}
+use borrow.Author.Tests.{ltb-false}
+use Rattle.whole.specs.Bytes.{laid}
+use Rattle.moves.specs.Form.{headerSize, recordStart, headerBytes, rowBytes, AllFitting}
+use Rattle.moves.specs.Reading.{recordsIn}
+use Rattle.moves.specs.declared.record.Record.{Record}
+use Rattle.moves.proofs.OneReading.{length-header, row-append, read-after}
+use Rattle.tape.specs.Lines.{lines}
+use Rattle.reading.specs.Finding.{findProgram}
+use Rattle.reading.specs.Reading.{readOf}
+use Rattle.reading.specs.declared.find.Found.{Found}
+use Rattle.reading.specs.declared.find.Found.the-variants.{At, Nowhere}
+use Rattle.reading.specs.declared.read.Read.{Read}
+use Rattle.reading.specs.declared.read.Read.the-variants as read
+use Rattle.turning.specs.Turned.{Turned}
+use Rattle.state.specs.Target.{Table, Sound}
+use Rattle.state.proofs.Ranges.{start-sound}
+use Rattle.machine.specs.Known.{InRange}
+use Rattle.machine.specs.Opens.{cycleIn}
+use Rattle.machine.specs.declared.run.Settings.{Settings}
+use Rattle.machine.proofs.Running.{sound-after}
+use Rattle.steps.specs.Ahead.{mostCalls}
+use Rattle.steps.specs.Steps.{Task, taskOf, Step, blockOn, runAfter}
+use Rattle.steps.specs.declared.step.Run.{Run}
+use Rattle.steps.proofs.Stepping.{worded-on}
+use Rattle.interpreter.specs.Answers.{Result, refused, answerBy, resultOf, startOf, mainBy, mainRun, readThen, longestTape, whole, headed, laidBy, bufferOf}
+use Rattle.interpreter.specs.Runs.{recordsOf, called, programRun}
+use Rattle.interpreter.specs.Wrong.{settingsWrong, Right}
+use Rattle.interpreter.specs.declared.interpret.Answer.{Answer}
+use Rattle.interpreter.specs.declared.interpret.Answer.the-variants.{Complete, Alarm}
+use Rattle.interpreter.proofs.Right.{right}
+use Rattle.demands.specs.Demands.{Each, Cut, EveryCycle, EachFrom, CutIn, readTask, task, DemandThreeInBuffer}
+use Rattle.demands.specs.Steps.{Done, Linked}
+use Rattle.demands.proofs.Cycles.{every-cycle}
+use Rattle.demands.proofs.Fits.{fitting-append, block-fitting, feed-after}
+use Rattle.demands.proofs.Linked.{free-own, called-leads, program-leads}
+
+-- ---- every record of a chain of steps fits
+abbrev AllFit : List Step → Type 0
+AllFit [] = Unit {0}
+AllFit (st ∷ sts) = AllFitting (st .records) × AllFit sts
+
+module _ (t : Task) (known : Table (t .table)) (range : InRange (t .settings)) where
+  chain-fits : (sts : List Step) (r s : Run) → Sound (r .state) → r .state .f < 10_000_000 → Linked t r sts s → AllFit sts
+  unfolding Linked runAfter
+  chain-fits [] r s h f l = tt
+  chain-fits (st ∷ sts) r s h f l =
+      let b = blockOn (t .tape) (st .place) in
+      let k = free-own t (l .0 .program) (l .0 .calls) (called t 0) (λ p n u. called-leads t 0 p n u) (st .place) r (l .0 .free) in
+      let w = worded-on (t .tape) (st .place) in
+      (
+        subst AllFitting (sym (l .0 .wrote)) (block-fitting (t .table) (t .settings) (r .state) b known range h f w (t .room - r .count) k),
+        chain-fits sts (runAfter t (st .place) r) s (sound-after (t .table) (t .settings) (r .state) b (t .room - r .count) k range h)
+        (feed-after (t .table) (t .settings) (r .state) b known range h f w) (l .1),
+      )
+
+-- ---- read where they were written: h is what stands before the records, v the records before the steps
+read-from : (t : Task) (h tail : List ℕ) (e : List ℕ) (v : List Record) (sts : List Step) → length h ≡ headerSize → e ≡ h ++ (rowBytes (v ++ recordsOf sts) ++ tail)
+    → AllFit sts → EveryCycle t sts → EachFrom (CutIn t e) (length v) sts
+unfolding EachFrom Each recordsOf
+read-from t h tail e v [] lh is f c = tt
+read-from t h tail e v (st ∷ sts) lh is f c =
+    let w = st .records in
+    let rest = recordsOf sts in
+    let split : rowBytes (v ++ (w ++ rest)) ++ tail ≡ rowBytes v ++ (rowBytes w ++ (rowBytes rest ++ tail)) =
+        ap (λ (x : List ℕ). x ++ tail) (row-append v (w ++ rest) ∙ ap (λ (x : List ℕ). rowBytes v ++ x) (row-append w rest))
+        ∙ append-assoc (rowBytes v) (rowBytes w ++ rowBytes rest) tail
+        ∙ ap (λ (x : List ℕ). rowBytes v ++ x) (append-assoc (rowBytes w) (rowBytes rest) tail) in
+    let there : w ≡ recordsIn e (length v) (length w) =
+        sym (ap (λ (x : List ℕ). recordsIn x (length v) (length w)) (is ∙ ap (λ (x : List ℕ). h ++ x) split) ∙ read-after h v w (rowBytes rest ++ tail) lh (f .0)) in
+    let b = blockOn (t .tape) (st .place) in
+    let onward : e ≡ h ++ (rowBytes ((v ++ w) ++ rest) ++ tail) = is ∙ ap (λ (x : List Record). h ++ (rowBytes x ++ tail)) (sym (append-assoc v w rest)) in
+    let more = read-from t h tail e (v ++ w) sts lh onward (f .1) (c .1) in
+    (
+      λ o. subst (Turned (cycleIn (t .table) (t .settings) (st .before .state) b)) there (c .0 o),
+      subst (λ (n : ℕ). EachFrom (CutIn t e) n sts) (length-append v w) more,
+    )
+
+-- ---- the buffer: a header or what was there, the records, and the rest as it came
+record Form (e : List ℕ) (rs : List Record) : Type 0 where
+  before : List ℕ
+  behind : List ℕ
+  size : length before ≡ headerSize
+  is : e ≡ before ++ (rowBytes rs ++ behind)
+
+laid-form : (b : List ℕ) (rs : List Record) → headerSize ≤ length b → Form (laid b (recordStart 0) (rowBytes rs)) rs
+unfolding laid
+laid-form b rs h = record { before = take 8 b; behind = drop (8 + length (rowBytes rs)) b; size = length-take-le 8 b h; is = refl }
+
+eight : (n : ℕ) → 0 + length (headerBytes n) ≡ 8
+eight n = omega (arith, length-header n)
+
+headed-form : (a : Answer) (e : List ℕ) (rs : List Record) → Form e rs → Form (headed a e) rs
+unfolding laid
+headed-form (Complete n) e rs f = record {
+  before = headerBytes n;
+  behind = f .behind;
+  size = length-header n;
+  is = ap (λ (k : ℕ). headerBytes n ++ drop k e) (eight n)
+      ∙ ap (λ (x : List ℕ). headerBytes n ++ x) (ap (drop 8) (f .is) ∙ drop-at (f .before) (rowBytes rs ++ f .behind) 8 (f .size));
+}
+headed-form (Alarm alarm place n) e rs f = f
+
+-- ---- of every input
+record Shown (t : Task) (b : List ℕ) (x : Result) : Type 0 where
+  cycles : EachFrom (CutIn t (laidBy x b)) 0 (x .steps)
+
+none-shown : (t : Task) (b : List ℕ) (alarm place : ℕ) → Shown t b (refused alarm place)
+unfolding EachFrom
+none-shown t b alarm place = record { cycles = tt }
+
+module _ (b : List ℕ) (header : headerSize ≤ length b) where
+  run-shown : (t : Task) → Table (t .table) → InRange (t .settings) → Sound (startOf (t .settings) .state) → (p : ℕ)
+      → Shown t b (resultOf (programRun t p mostCalls (startOf (t .settings))))
+  unfolding resultOf laidBy
+  run-shown t known range sound p =
+      let r = startOf (t .settings) in
+      let x = programRun t p mostCalls r in
+      let l = program-leads t p mostCalls r in
+      let a = answerBy (x .outcome .how) (x .outcome .run .count) in
+      let e = laid b (recordStart 0) (rowBytes (recordsOf (x .steps))) in
+      let f = headed-form a e (recordsOf (x .steps)) (laid-form b (recordsOf (x .steps)) header) in record {
+        cycles = read-from t (f .before) (f .behind) (headed a e) [] (x .steps) (f .size) (f .is)
+            (chain-fits t known range (x .steps) r (x .outcome .run) sound (omega arith) l) (every-cycle t (x .steps) r (x .outcome .run) l);
+      }
+
+  main-shown : (t : Task) → Table (t .table) → InRange (t .settings) → Sound (startOf (t .settings) .state) → (f : Found) → Shown t b (mainBy t f)
+  unfolding mainBy
+  main-shown t known range sound (At p) = run-shown t known range sound p
+  main-shown t known range sound Nowhere = none-shown t b _ 0
+
+module _ (tape : List ℕ) (table : List ℤ) (set : Settings) (b : List ℕ) where
+  read-shown : headerSize ≤ length b → Right table set → (r : Read) → Shown (readTask tape table set (length b) r) b (readThen tape table set (length b) r)
+  unfolding readThen mainRun
+  read-shown h k (read.Whole first end) =
+      let t = taskOf (take end tape) table set first (length b) in
+      main-shown b h t (k .offsets) (k .range) (start-sound (set .x) (set .z) (k .starts .x) (k .starts .z)) (findProgram (set .main) (lines (take end tape) first))
+  read-shown h k (read.Alarm alarm place) = none-shown (taskOf [] table set 0 (length b)) b alarm place
+
+  by-test : (t : Task) (c : Bool) (x y : Result) → Shown t b x → (c ≡ false → Shown t b y) → Shown t b (cond c x y)
+  by-test t true x y h k = h
+  by-test t false x y h k = k refl
+
+  shown : Shown (task tape table set (length b)) b (whole tape table set (length b))
+  unfolding whole
+  shown =
+      let t = task tape table set (length b) in
+      by-test t (settingsWrong table set) _ _ (none-shown t b _ 0) λ right-now.
+      by-test t (ltb longestTape (length tape)) _ _ (none-shown t b _ 0) λ short.
+      by-test t (ltb (length b) headerSize) _ _ (none-shown t b _ 0) λ long.
+      read-shown (ltb-false (length b) headerSize long) (right table set right-now) (readOf tape)
+
+  pub demand-three-in-buffer : DemandThreeInBuffer tape table set b
+  demand-three-in-buffer = shown .cycles
