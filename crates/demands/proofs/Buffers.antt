@@ -8,13 +8,13 @@ use native.Mathlib.Omega.{arith}
 use lib.Dec.{ltb}
 use lib.IntN.{ℤ}
 use lib.ListN.{length, take, drop, length-append}
-use lib.Seq.{length-take-le, drop-at}
+use lib.Seq.{length-take-le, take-at, drop-at}
 use borrow.Author.Tests.{ltb-false}
 use Rattle.whole.specs.Bytes.{laid}
 use Rattle.moves.specs.Form.{headerSize, recordStart, headerBytes, rowBytes, AllFitting}
 use Rattle.moves.specs.Reading.{recordsIn}
 use Rattle.moves.specs.declared.record.Record.{Record}
-use Rattle.moves.proofs.OneReading.{length-header, row-append, read-after}
+use Rattle.moves.proofs.OneReading.{length-row, length-header, row-append, read-after}
 use Rattle.tape.specs.Lines.{lines}
 use Rattle.reading.specs.Finding.{findProgram}
 use Rattle.reading.specs.Reading.{readOf}
@@ -39,19 +39,19 @@ use Rattle.interpreter.specs.Wrong.{settingsWrong, Right}
 use Rattle.interpreter.specs.declared.interpret.Answer.{Answer}
 use Rattle.interpreter.specs.declared.interpret.Answer.the-variants.{Complete, Alarm}
 use Rattle.interpreter.proofs.Right.{right}
-use Rattle.demands.specs.Demands.{Each, Cut, EveryCycle, EachFrom, CutIn, readTask, task, DemandThreeInBuffer}
+use Rattle.demands.specs.Demands.{Each, Cut, EveryCycle, EachFrom, CutIn, readTask, task, Front, DemandThreeInBuffer}
 use Rattle.demands.specs.Steps.{Done, Linked}
 use Rattle.demands.proofs.Cycles.{every-cycle}
 use Rattle.demands.proofs.Fits.{fitting-append, block-fitting, feed-after}
 use Rattle.demands.proofs.Linked.{free-own, called-leads, program-leads}
 
 -- ---- every record of a chain of steps fits
-abbrev AllFit : List Step → Type 0
+abbrev pub AllFit : List Step → Type 0
 AllFit [] = Unit {0}
 AllFit (st ∷ sts) = AllFitting (st .records) × AllFit sts
 
 module _ (t : Task) (known : Table (t .table)) (range : InRange (t .settings)) where
-  chain-fits : (sts : List Step) (r s : Run) → Sound (r .state) → r .state .f < 10_000_000 → Linked t r sts s → AllFit sts
+  pub chain-fits : (sts : List Step) (r s : Run) → Sound (r .state) → r .state .f < 10_000_000 → Linked t r sts s → AllFit sts
   unfolding Linked runAfter
   chain-fits [] r s h f l = tt
   chain-fits (st ∷ sts) r s h f l =
@@ -87,29 +87,52 @@ read-from t h tail e v (st ∷ sts) lh is f c =
     )
 
 -- ---- the buffer: a header or what was there, the records, and the rest as it came
-record Form (e : List ℕ) (rs : List Record) : Type 0 where
-  before : List ℕ
-  behind : List ℕ
-  size : length before ≡ headerSize
-  is : e ≡ before ++ (rowBytes rs ++ behind)
+pub record Form (a : Answer) (b e : List ℕ) (rs : List Record) : Type 0 where
+  pub before : List ℕ
+  pub behind : List ℕ
+  pub size : length before ≡ headerSize
+  pub is : e ≡ before ++ (rowBytes rs ++ behind)
+  pub rest : behind ≡ drop (recordStart (length rs)) b
+  pub front : Front a b e
 
-laid-form : (b : List ℕ) (rs : List Record) → headerSize ≤ length b → Form (laid b (recordStart 0) (rowBytes rs)) rs
-unfolding laid
-laid-form b rs h = record { before = take 8 b; behind = drop (8 + length (rowBytes rs)) b; size = length-take-le 8 b h; is = refl }
+module _ (b : List ℕ) (rs : List Record) (h : headerSize ≤ length b) where
+  abbrev after : List ℕ
+  after = drop (8 + length (rowBytes rs)) b
 
-eight : (n : ℕ) → 0 + length (headerBytes n) ≡ 8
-eight n = omega (arith, length-header n)
+  e-is : laid b (recordStart 0) (rowBytes rs) ≡ take 8 b ++ (rowBytes rs ++ after)
+  unfolding laid
+  e-is = refl
 
-headed-form : (a : Answer) (e : List ℕ) (rs : List Record) → Form e rs → Form (headed a e) rs
-unfolding laid
-headed-form (Complete n) e rs f = record {
-  before = headerBytes n;
-  behind = f .behind;
-  size = length-header n;
-  is = ap (λ (k : ℕ). headerBytes n ++ drop k e) (eight n)
-      ∙ ap (λ (x : List ℕ). headerBytes n ++ x) (ap (drop 8) (f .is) ∙ drop-at (f .before) (rowBytes rs ++ f .behind) 8 (f .size));
-}
-headed-form (Alarm alarm place n) e rs f = f
+  rest-is : after ≡ drop (recordStart (length rs)) b
+  rest-is = ap (λ (k : ℕ). drop k b) (ap (λ (k : ℕ). 8 + k) (length-row rs))
+
+  -- with the header laid over the front
+  over : (n : ℕ) → laid (laid b (recordStart 0) (rowBytes rs)) 0 (headerBytes n) ≡ headerBytes n ++ (rowBytes rs ++ after)
+  unfolding laid
+  over n =
+      ap (λ (k : ℕ). headerBytes n ++ drop k (take 8 b ++ (rowBytes rs ++ after))) (eight n)
+      ∙ ap (λ (x : List ℕ). headerBytes n ++ x) (drop-at (take 8 b) (rowBytes rs ++ after) 8 (length-take-le 8 b h))
+    where
+      eight : (n : ℕ) → 0 + length (headerBytes n) ≡ 8
+      eight n = omega (arith, length-header n)
+
+  pub form : (a : Answer) → Form a b (headed a (laid b (recordStart 0) (rowBytes rs))) rs
+  form (Complete n) = record {
+    before = headerBytes n;
+    behind = after;
+    size = length-header n;
+    is = over n;
+    rest = rest-is;
+    front = ap (take 8) (over n) ∙ take-at (headerBytes n) (rowBytes rs ++ after) 8 (length-header n);
+  }
+  form (Alarm alarm place n) = record {
+    before = take 8 b;
+    behind = after;
+    size = length-take-le 8 b h;
+    is = e-is;
+    rest = rest-is;
+    front = ap (take 8) e-is ∙ take-at (take 8 b) (rowBytes rs ++ after) 8 (length-take-le 8 b h);
+  }
 
 -- ---- of every input
 record Shown (t : Task) (b : List ℕ) (x : Result) : Type 0 where
@@ -129,7 +152,7 @@ module _ (b : List ℕ) (header : headerSize ≤ length b) where
       let l = program-leads t p mostCalls r in
       let a = answerBy (x .outcome .how) (x .outcome .run .count) in
       let e = laid b (recordStart 0) (rowBytes (recordsOf (x .steps))) in
-      let f = headed-form a e (recordsOf (x .steps)) (laid-form b (recordsOf (x .steps)) header) in record {
+      let f = form b (recordsOf (x .steps)) header a in record {
         cycles = read-from t (f .before) (f .behind) (headed a e) [] (x .steps) (f .size) (f .is)
             (chain-fits t known range (x .steps) r (x .outcome .run) sound (omega arith) l) (every-cycle t (x .steps) r (x .outcome .run) l);
       }

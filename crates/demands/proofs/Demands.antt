@@ -19,12 +19,12 @@ use Rattle.reading.specs.declared.read.Read.the-variants as read
 use Rattle.machine.specs.declared.run.Settings.{Settings}
 use Rattle.steps.specs.Ahead.{mostCalls}
 use Rattle.steps.specs.Steps.{Task, taskOf}
-use Rattle.interpreter.specs.Answers.{countOf, Result, refused, answerBy, resultOf, startOf, mainBy, mainRun, readThen, longestTape, whole}
+use Rattle.interpreter.specs.Answers.{countOf, Result, refused, answerBy, resultOf, startOf, mainBy, mainRun, readThen, longestTape, whole, answerOf}
 use Rattle.interpreter.specs.Runs.{recordsOf, programRun}
 use Rattle.interpreter.specs.Wrong.{settingsWrong}
 use Rattle.interpreter.specs.declared.run.How.{How}
 use Rattle.interpreter.specs.declared.run.How.the-variants.{Returned, Ended, Stopped}
-use Rattle.demands.specs.Demands.{Each, EveryCycle, readTask, task, DemandThree, CountIsWritten}
+use Rattle.demands.specs.Demands.{Each, EveryCycle, readTask, task, DemandThree}
 use Rattle.demands.proofs.Cycles.{every-cycle, counted}
 use Rattle.demands.proofs.Linked.{program-leads}
 
@@ -41,7 +41,7 @@ by-test : (t : Task) (b : Bool) (x y : Result) → Shown t x → Shown t y → S
 by-test t true x y h k = h
 by-test t false x y h k = k
 
-count-by : (h : How) (n : ℕ) → countOf (answerBy h n) ≡ n
+pub count-by : (h : How) (n : ℕ) → countOf (answerBy h n) ≡ n
 unfolding answerBy
 count-by Ended n = refl
 count-by (Stopped alarm place) n = refl
@@ -83,5 +83,5 @@ module _ (tape : List ℕ) (table : List ℤ) (set : Settings) (bytes : ℕ) whe
   pub demand-three : DemandThree tape table set bytes
   demand-three = shown .cycles
 
-  pub count-is-written : CountIsWritten tape table set bytes
+  pub count-is-written : countOf (answerOf tape table set bytes) ≡ length (recordsOf (whole tape table set bytes .steps))
   count-is-written = shown .count

@@ -5,3 +5,4 @@ pub mod Cycles
 pub mod Demands
 pub mod Fits
 pub mod Buffers
+pub mod Holding

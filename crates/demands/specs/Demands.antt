@@ -1,13 +1,16 @@
--- THE DEMANDS. Demand 3: "In every G84 that a run opens with a division above zero: the pass depths add up exactly to the infeed less the allowance, none is above the division, no row within the
+-- THE DEMANDS, as statements about every tape, table, settings and buffer; proofs/ has their proofs. `answerOf` and `bufferOf` are what the contract of `interpret` says it answers and leaves.
+-- Demand 3: "In every G84 that a run opens with a division above zero: the pass depths add up exactly to the infeed less the allowance, none is above the division, no row within the
 -- division with that sum is shorter, none equally short has a smaller greatest depth. With or without a division no feed move of the cycle goes past the allowance in either axis." Which cycles
 -- a run opened is read off the tape and the state before each step; the depths are read off the records that the step wrote.
 use mathlib.Core.Path.{_≡_}
 use mathlib.Core.Bool.{true}
-use mathlib.Core.List.{List, [], _∷_}
+use mathlib.Core.List.{List, [], _∷_, _++_}
 use Prim.Native.Nat.{ℕ, _+_}
 use lib.IntN.{ℤ}
-use lib.ListN.{length, take}
-use Rattle.moves.specs.Reading.{recordsIn}
+use lib.ListN.{length, take, drop}
+use Rattle.moves.specs.Form.{headerSize, recordStart, headerBytes, listBytes, LawfulList}
+use Rattle.moves.specs.Reading.{recordsIn, countIn, listIn}
+use Rattle.moves.specs.declared.record.Record.{Record}
 use Rattle.reading.specs.Reading.{readOf}
 use Rattle.reading.specs.declared.read.Read.{Read}
 use Rattle.reading.specs.declared.read.Read.the-variants as read
@@ -17,6 +20,8 @@ use Rattle.machine.specs.declared.run.Settings.{Settings}
 use Rattle.steps.specs.Steps.{Task, taskOf, Step, blockOn}
 use Rattle.interpreter.specs.Answers.{countOf, whole, answerOf, bufferOf}
 use Rattle.interpreter.specs.Runs.{recordsOf}
+use Rattle.interpreter.specs.declared.interpret.Answer.{Answer}
+use Rattle.interpreter.specs.declared.interpret.Answer.the-variants.{Complete, Alarm}
 
 -- P of each step
 unfoldable pub Each : (Step → Type 0) → List Step → Type 0
@@ -60,6 +65,34 @@ abbrev pub DemandThreeInBuffer : List ℕ → List ℤ → Settings → List ℕ
 DemandThreeInBuffer tape table set b =
     EachFrom (CutIn (task tape table set (length b)) (bufferOf tape table set b)) 0 (whole tape table set (length b) .steps)
 
--- OF DEMANDS 1 AND 2: the count that the answer gives, and that the header gives where there is one, is the number of records that were written
-abbrev pub CountIsWritten : List ℕ → List ℤ → Settings → ℕ → Type 0
-CountIsWritten tape table set bytes = countOf (answerOf tape table set bytes) ≡ length (recordsOf (whole tape table set bytes .steps))
+-- ---- demands 1 and 2
+-- the header's place: that of the list where it is complete, and as it came on an alarm
+abbrev pub Front : Answer → List ℕ → List ℕ → Type 0
+Front (Complete count) b e = take headerSize e ≡ headerBytes count
+Front (Alarm alarm place count) b e = take headerSize e ≡ take headerSize b
+
+-- what a buffer b holds after an answer, as e, where the steps wrote the records rs: that many records, one after the other, and every other byte as it came
+pub record HoldsAfter (a : Answer) (b e : List ℕ) (rs : List Record) : Type 0 where
+  pub counted : countOf a ≡ length rs
+  pub records : recordsIn e 0 (countOf a) ≡ rs
+  pub front : Front a b e
+  pub behind : drop (recordStart (countOf a)) e ≡ drop (recordStart (countOf a)) b
+  pub size : length e ≡ length b
+
+-- DEMAND 1, of every tape, table, settings and buffer: what the buffer holds after a list and after an alarm
+abbrev pub DemandOne : List ℕ → List ℤ → Settings → List ℕ → Type 0
+DemandOne tape table set b =
+    HoldsAfter (answerOf tape table set (length b)) b (bufferOf tape table set b) (recordsOf (whole tape table set (length b) .steps))
+
+-- a complete list of so many records: it is read off the bytes, its header has its count, and no other list has these bytes
+pub record IsList (count : ℕ) (e : List ℕ) (rs : List Record) : Type 0 where
+  pub lawful : LawfulList rs
+  pub reads : listIn e ≡ rs
+  pub header : countIn e ≡ count
+  pub counted : count ≡ length rs
+  pub alone : (ss : List Record) (tail : List ℕ) → LawfulList ss → e ≡ listBytes ss ++ tail → ss ≡ rs
+
+-- DEMAND 2, of every tape, table, settings and buffer: where the answer is a list, its bytes are those of the run's records and have no other reading
+abbrev pub DemandTwo : List ℕ → List ℤ → Settings → List ℕ → Type 0
+DemandTwo tape table set b =
+    (count : ℕ) → answerOf tape table set (length b) ≡ Complete count → IsList count (bufferOf tape table set b) (recordsOf (whole tape table set (length b) .steps))

@@ -1,0 +1,191 @@
+-- Demands 1 and 2: what the buffer holds after any answer, and that a list's bytes have one reading.
+-- Assumes nothing.
+use mathlib.Core.Path.{_≡_, refl, sym, ap, _∙_, subst}
+use mathlib.Core.Bool.{Bool, true, false, cond}
+use mathlib.Core.List.{List, [], _∷_, _++_, append-assoc}
+use Prim.Native.Nat.{ℕ, _+_, _-_, _*_, _/_, _%_, _<_, _≤_}
+use native.Mathlib.Omega.{arith}
+use lib.Dec.{ltb}
+use lib.IntN.{ℤ}
+use lib.ListN.{length, take, drop, length-append, length-drop}
+use lib.Seq.{take-at, drop-at}
+use borrow.Author.Tests.{ltb-false}
+use Rattle.whole.specs.Bytes.{laid}
+use Rattle.whole.proofs.Laying.{laid-nil}
+use Rattle.moves.specs.Form.{headerSize, recordStart, recordLimit, roomOf, headerBytes, rowBytes, listBytes, AllFitting, LawfulList}
+use Rattle.moves.specs.Reading.{recordsIn, countIn, listIn, rowIn}
+use Rattle.moves.specs.declared.record.Record.{Record}
+use Rattle.moves.proofs.OneReading.{length-row, row-read, read-after, list-read, one-reading}
+use Rattle.tape.specs.Lines.{lines}
+use Rattle.reading.specs.Finding.{findProgram}
+use Rattle.reading.specs.Reading.{readOf}
+use Rattle.reading.specs.declared.find.Found.{Found}
+use Rattle.reading.specs.declared.find.Found.the-variants.{At, Nowhere}
+use Rattle.reading.specs.declared.read.Read.{Read}
+use Rattle.reading.specs.declared.read.Read.the-variants as read
+use Rattle.state.specs.Target.{Table, Sound}
+use Rattle.state.proofs.Ranges.{start-sound}
+use Rattle.machine.specs.Known.{InRange}
+use Rattle.machine.specs.declared.run.Settings.{Settings}
+use Rattle.machine.proofs.Running.{done-few, room-few, room-fits}
+use Rattle.steps.specs.Ahead.{mostCalls}
+use Rattle.steps.specs.Steps.{Task, taskOf, Step, blockOn, runAfter}
+use Rattle.steps.specs.declared.step.Run.{Run}
+use Rattle.interpreter.specs.Answers.{countOf, Result, refused, answerBy, resultOf, startOf, mainBy, mainRun, readThen, longestTape, whole, headed, laidBy, answerOf, bufferOf}
+use Rattle.interpreter.specs.Runs.{recordsOf, called, programRun}
+use Rattle.interpreter.specs.Wrong.{settingsWrong, Right}
+use Rattle.interpreter.specs.declared.interpret.Answer.{Answer}
+use Rattle.interpreter.specs.declared.interpret.Answer.the-variants.{Complete, Alarm}
+use Rattle.interpreter.proofs.Right.{right}
+use Rattle.demands.specs.Demands.{Front, HoldsAfter, IsList, DemandOne, DemandTwo}
+use Rattle.demands.specs.Steps.{Done, Linked}
+use Rattle.demands.proofs.Buffers.{AllFit, chain-fits, Form, form}
+use Rattle.demands.proofs.Cycles.{counted}
+use Rattle.demands.proofs.Demands.{count-by}
+use Rattle.demands.proofs.Fits.{fitting-append}
+use Rattle.demands.proofs.Linked.{free-own, called-leads, program-leads}
+
+-- ---- along the chain
+all-fit : (sts : List Step) → AllFit sts → AllFitting (recordsOf sts)
+unfolding recordsOf
+all-fit [] f = tt
+all-fit (st ∷ sts) f = fitting-append (st .records) (recordsOf sts) (f .0) (all-fit sts (f .1))
+
+-- no more records than there is room for
+chain-room : (t : Task) (sts : List Step) (r s : Run) → r .count ≤ t .room → Linked t r sts s → s .count ≤ t .room
+unfolding Linked runAfter
+chain-room t [] r s h l = omega (arith, h, ap (λ (q : Run). q .count) l)
+chain-room t (st ∷ sts) r s h l =
+    let b = blockOn (t .tape) (st .place) in
+    let k = free-own t (l .0 .program) (l .0 .calls) (called t 0) (λ p n u. called-leads t 0 p n u) (st .place) r (l .0 .free) in
+    let few = done-few (t .table) (t .settings) (r .state) b (t .room - r .count) k in
+    chain-room t sts (runAfter t (st .place) r) s (omega (arith, h, few)) (l .1)
+
+-- ---- what a buffer of that form holds
+module _ (a : Answer) (b e : List ℕ) (rs : List Record) (f : Form a b e rs) (fits : AllFitting rs) where
+  rows : length (f .before ++ rowBytes rs) ≡ recordStart (length rs)
+  rows = omega (arith, length-append (f .before) (rowBytes rs), f .size, length-row rs)
+
+  reads : recordsIn e 0 (length rs) ≡ rs
+  unfolding rowBytes
+  reads = ap (λ (x : List ℕ). recordsIn x 0 (length rs)) (f .is) ∙ read-after (f .before) [] rs (f .behind) (f .size) fits
+
+  holds : countOf a ≡ length rs → recordStart (length rs) ≤ length b → HoldsAfter a b e rs
+  holds c room = record {
+    counted = c;
+    records = ap (recordsIn e 0) c ∙ reads;
+    front = f .front;
+    behind = ap (λ (n : ℕ). drop (recordStart n) e) c
+        ∙ ap (drop (recordStart (length rs))) (f .is ∙ sym (append-assoc (f .before) (rowBytes rs) (f .behind)))
+        ∙ drop-at (f .before ++ rowBytes rs) (f .behind) (recordStart (length rs)) rows
+        ∙ f .rest
+        ∙ ap (λ (n : ℕ). drop (recordStart n) b) (sym c);
+    size = ap length (f .is ∙ sym (append-assoc (f .before) (rowBytes rs) (f .behind)) ∙ ap (λ (x : List ℕ). (f .before ++ rowBytes rs) ++ x) (f .rest))
+        ∙ sized;
+  }
+    where
+      sized : length ((f .before ++ rowBytes rs) ++ drop (recordStart (length rs)) b) ≡ length b
+      sized = omega (arith, length-append (f .before ++ rowBytes rs) (drop (recordStart (length rs)) b), rows, length-drop (recordStart (length rs)) b, room)
+
+-- ---- of a run
+record Shown (b : List ℕ) (x : Result) : Type 0 where
+  one : HoldsAfter (x .answer) b (laidBy x b) (recordsOf (x .steps))
+  two : (count : ℕ) → x .answer ≡ Complete count → IsList count (laidBy x b) (recordsOf (x .steps))
+
+no-list : (alarm place n count : ℕ) → Alarm alarm place n ≡ Complete count → ⊥
+no-list alarm place n count e = subst alarmed e tt
+  where
+    alarmed : Answer → Type 0
+    alarmed (Alarm a p m) = Unit {0}
+    alarmed (Complete m) = ⊥
+
+-- an alarm before any block is begun
+none-shown : (b : List ℕ) (alarm place : ℕ) → Shown b (refused alarm place)
+unfolding laidBy recordsOf rowBytes rowIn
+none-shown b alarm place =
+    let same : laid b (recordStart 0) [] ≡ b = laid-nil b (recordStart 0) in record {
+      one = record { counted = refl; records = refl; front = ap (take headerSize) same; behind = ap (drop (recordStart 0)) same; size = ap length same };
+      two = λ count e. absurd (no-list alarm place 0 count e);
+    }
+
+-- the count of a complete list
+complete-count : {a : Answer} {count : ℕ} → a ≡ Complete count → countOf a ≡ count
+complete-count e = ap countOf e
+
+list-count : (rs : List Record) (tail : List ℕ) → LawfulList rs → countIn (listBytes rs ++ tail) ≡ length rs
+unfolding listBytes headerBytes
+list-count rs tail f = counts (length rs) (f .few)
+  where
+    counts : (n : ℕ) → n ≤ recordLimit → n % 256 + 256 * (n / 256 % 256 + 256 * 0) ≡ n
+    counts n h = omega (arith, h)
+
+listed : (a : Answer) (b e : List ℕ) (rs : List Record) → Form a b e rs → LawfulList rs → (count : ℕ) → a ≡ Complete count → count ≡ length rs → IsList count e rs
+unfolding listBytes
+listed a b e rs f lawful count k c =
+    let front : take headerSize e ≡ headerBytes count = subst (λ (x : Answer). Front x b e) k (f .front) in
+    let before : f .before ≡ headerBytes count = sym (ap (take headerSize) (f .is) ∙ take-at (f .before) (rowBytes rs ++ f .behind) headerSize (f .size)) ∙ front in
+    let is : e ≡ listBytes rs ++ f .behind =
+        f .is
+        ∙ ap (λ (x : List ℕ). x ++ (rowBytes rs ++ f .behind)) (before ∙ ap headerBytes c)
+        ∙ sym (append-assoc (headerBytes (length rs)) (rowBytes rs) (f .behind)) in record {
+      lawful = lawful;
+      reads = ap listIn is ∙ list-read rs (f .behind) lawful;
+      header = ap countIn is ∙ list-count rs (f .behind) lawful ∙ sym c;
+      counted = c;
+      alone = λ ss tail other same. sym (one-reading rs ss (f .behind) tail lawful other (sym is ∙ same));
+    }
+
+module _ (b : List ℕ) (header : headerSize ≤ length b) (t : Task) (room : t .room ≡ roomOf (length b)) (known : Table (t .table)) (range : InRange (t .settings))
+    (sound : Sound (startOf (t .settings) .state)) where
+  run-shown : (p : ℕ) → Shown b (resultOf (programRun t p mostCalls (startOf (t .settings))))
+  unfolding resultOf laidBy listBytes
+  run-shown p =
+      let r = startOf (t .settings) in
+      let x = programRun t p mostCalls r in
+      let l = program-leads t p mostCalls r in
+      let rs = recordsOf (x .steps) in
+      let n = x .outcome .run .count in
+      let a = answerBy (x .outcome .how) n in
+      let e = laid b (recordStart 0) (rowBytes rs) in
+      let f : Form a b (headed a e) rs = form b rs header a in
+      let fits : AllFitting rs = all-fit (x .steps) (chain-fits t known range (x .steps) r (x .outcome .run) sound (omega arith) l) in
+      let are : n ≡ 0 + length rs = counted t (x .steps) r (x .outcome .run) l in
+      let many : n ≡ length rs = omega (arith, are) in
+      let few : n ≤ t .room = chain-room t (x .steps) r (x .outcome .run) (omega arith) l in
+      let inside : recordStart (length rs) ≤ length b = omega (arith, many, room-fits (length b) n header (omega (arith, few, room))) in
+      let lawful : LawfulList rs = record { few = omega (arith, many, few, room, room-few (length b)); each = fits } in record {
+        one = holds a b (headed a e) rs f fits (count-by (x .outcome .how) n ∙ many) inside;
+        two = λ count k. listed a b (headed a e) rs f lawful count k (sym (complete-count k) ∙ count-by (x .outcome .how) n ∙ many);
+      }
+
+  main-shown : (f : Found) → Shown b (mainBy t f)
+  unfolding mainBy
+  main-shown (At p) = run-shown p
+  main-shown Nowhere = none-shown b _ 0
+
+-- ---- of every input
+module _ (tape : List ℕ) (table : List ℤ) (set : Settings) (b : List ℕ) where
+  read-shown : headerSize ≤ length b → Right table set → (r : Read) → Shown b (readThen tape table set (length b) r)
+  unfolding readThen mainRun
+  read-shown h k (read.Whole first end) =
+      main-shown b h (taskOf (take end tape) table set first (length b)) refl (k .offsets) (k .range)
+      (start-sound (set .x) (set .z) (k .starts .x) (k .starts .z)) (findProgram (set .main) (lines (take end tape) first))
+  read-shown h k (read.Alarm alarm place) = none-shown b alarm place
+
+  by-test : (c : Bool) (x y : Result) → Shown b x → (c ≡ false → Shown b y) → Shown b (cond c x y)
+  by-test true x y h k = h
+  by-test false x y h k = k refl
+
+  shown : Shown b (whole tape table set (length b))
+  unfolding whole
+  shown =
+      by-test (settingsWrong table set) _ _ (none-shown b _ 0) λ settings.
+      by-test (ltb longestTape (length tape)) _ _ (none-shown b _ 0) λ short.
+      by-test (ltb (length b) headerSize) _ _ (none-shown b _ 0) λ long.
+      read-shown (ltb-false (length b) headerSize long) (right table set settings) (readOf tape)
+
+  pub demand-one : DemandOne tape table set b
+  demand-one = shown .one
+
+  pub demand-two : DemandTwo tape table set b
+  demand-two = shown .two
