@@ -2,7 +2,7 @@
 -- Assumes nothing.
 use mathlib.Core.Path.{_≡_, refl, sym, ap, _∙_, subst}
 use mathlib.Core.Bool.{Bool, true, false, cond}
-use mathlib.Core.List.{List, [], _∷_, _++_, append-assoc, append-nil}
+use mathlib.Core.List.{List, [], _∷_, _++_, append-assoc}
 use Prim.Native.Nat.{ℕ, _+_, _-_, _<_, _≤_}
 use native.Mathlib.Omega.{arith}
 use lib.Dec.{ltb}
@@ -33,16 +33,17 @@ use Rattle.steps.specs.Ahead.{mostCalls}
 use Rattle.steps.specs.Steps.{Task, taskOf, Step, blockOn, runAfter}
 use Rattle.steps.specs.declared.step.Run.{Run}
 use Rattle.steps.proofs.Stepping.{worded-on}
-use Rattle.interpreter.specs.Answers.{Result, refused, answerBy, resultOf, startOf, mainBy, mainRun, readThen, longestTape, whole, headed, laidBy, bufferOf}
+use Rattle.interpreter.specs.Answers.{Result, refused, answerBy, resultOf, startOf, mainBy, mainRun, readThen, longestTape, whole, headed, laidBy}
 use Rattle.interpreter.specs.Runs.{recordsOf, called, programRun}
 use Rattle.interpreter.specs.Wrong.{settingsWrong, Right}
 use Rattle.interpreter.specs.declared.interpret.Answer.{Answer}
 use Rattle.interpreter.specs.declared.interpret.Answer.the-variants.{Complete, Alarm}
 use Rattle.interpreter.proofs.Right.{right}
-use Rattle.demands.specs.Demands.{Each, Cut, EveryCycle, EachFrom, CutIn, readTask, task, Front, DemandThreeInBuffer}
+use Rattle.demands.specs.Demands.{Each, EveryCycle, EachFrom, lastOf, CutIn, readTask, task, Front, DemandThreeInBuffer}
 use Rattle.demands.specs.Steps.{Done, Linked}
 use Rattle.demands.proofs.Cycles.{every-cycle}
 use Rattle.demands.proofs.Fits.{fitting-append, block-fitting, feed-after}
+use Rattle.demands.proofs.Standing.{last-append, block-stands}
 use Rattle.demands.proofs.Linked.{free-own, called-leads, program-leads}
 
 -- ---- every record of a chain of steps fits
@@ -57,32 +58,57 @@ module _ (t : Task) (known : Table (t .table)) (range : InRange (t .settings)) w
   chain-fits (st ∷ sts) r s h f l =
       let b = blockOn (t .tape) (st .place) in
       let k = free-own t (l .0 .program) (l .0 .calls) (called t 0) (λ p n u. called-leads t 0 p n u) (st .place) r (l .0 .free) in
-      let w = worded-on (t .tape) (st .place) in
-      (
+      let w = worded-on (t .tape) (st .place) in (
         subst AllFitting (sym (l .0 .wrote)) (block-fitting (t .table) (t .settings) (r .state) b known range h f w (t .room - r .count) k),
         chain-fits sts (runAfter t (st .place) r) s (sound-after (t .table) (t .settings) (r .state) b (t .room - r .count) k range h)
-        (feed-after (t .table) (t .settings) (r .state) b known range h f w) (l .1),
+            (feed-after (t .table) (t .settings) (r .state) b known range h f w) (l .1),
       )
 
+-- the records at the front of the list
+read-front : (h : List ℕ) (v : List Record) (tail : List ℕ) → length h ≡ headerSize → AllFitting v → recordsIn (h ++ (rowBytes v ++ tail)) 0 (length v) ≡ v
+unfolding rowBytes
+read-front h v tail lh g = read-after h [] v tail lh g
+
+-- where the axes stand after one more step, on X or on Z
+stood : (second : Bool) (t : Task) (r : Run) (st : Step) (v : List Record) → Done t r st → (x : ℤ)
+    → cond second (r .state .z) (r .state .x) ≡ lastOf (λ q. cond second (q .z) (q .x)) x v
+    → cond second (runAfter t (st .place) r .state .z) (runAfter t (st .place) r .state .x) ≡ lastOf (λ q. cond second (q .z) (q .x)) x (v ++ st .records)
+unfolding runAfter
+stood second t r st v d x h =
+    let b = blockOn (t .tape) (st .place) in
+    let f : Record → ℤ = λ q. cond second (q .z) (q .x) in
+    sym (block-stands second (t .table) (t .settings) (r .state) b)
+    ∙ (λ i. lastOf f (h i) (sym (d .wrote) i))
+    ∙ sym (last-append f v (st .records) x)
+
 -- ---- read where they were written: h is what stands before the records, v the records before the steps
-read-from : (t : Task) (h tail : List ℕ) (e : List ℕ) (v : List Record) (sts : List Step) → length h ≡ headerSize → e ≡ h ++ (rowBytes (v ++ recordsOf sts) ++ tail)
-    → AllFit sts → EveryCycle t sts → EachFrom (CutIn t e) (length v) sts
-unfolding EachFrom Each recordsOf
-read-from t h tail e v [] lh is f c = tt
-read-from t h tail e v (st ∷ sts) lh is f c =
+read-from : (t : Task) (h tail : List ℕ) (e : List ℕ) (v : List Record) (sts : List Step) (r s : Run) → length h ≡ headerSize
+    → e ≡ h ++ (rowBytes (v ++ recordsOf sts) ++ tail) → AllFitting v → AllFit sts → EveryCycle t sts → Linked t r sts s
+    → r .state .x ≡ lastOf (λ q. q .x) (t .settings .x) v → r .state .z ≡ lastOf (λ q. q .z) (t .settings .z) v
+    → EachFrom (CutIn t e) (length v) sts
+unfolding EachFrom Each recordsOf Linked runAfter
+read-from t h tail e v [] r s lh is g f c l x z = tt
+read-from t h tail e v (st ∷ sts) r s lh is g f c l x z =
     let w = st .records in
     let rest = recordsOf sts in
-    let split : rowBytes (v ++ (w ++ rest)) ++ tail ≡ rowBytes v ++ (rowBytes w ++ (rowBytes rest ++ tail)) =
-        ap (λ (x : List ℕ). x ++ tail) (row-append v (w ++ rest) ∙ ap (λ (x : List ℕ). rowBytes v ++ x) (row-append w rest))
-        ∙ append-assoc (rowBytes v) (rowBytes w ++ rowBytes rest) tail
-        ∙ ap (λ (x : List ℕ). rowBytes v ++ x) (append-assoc (rowBytes w) (rowBytes rest) tail) in
-    let there : w ≡ recordsIn e (length v) (length w) =
-        sym (ap (λ (x : List ℕ). recordsIn x (length v) (length w)) (is ∙ ap (λ (x : List ℕ). h ++ x) split) ∙ read-after h v w (rowBytes rest ++ tail) lh (f .0)) in
     let b = blockOn (t .tape) (st .place) in
-    let onward : e ≡ h ++ (rowBytes ((v ++ w) ++ rest) ++ tail) = is ∙ ap (λ (x : List Record). h ++ (rowBytes x ++ tail)) (sym (append-assoc v w rest)) in
-    let more = read-from t h tail e (v ++ w) sts lh onward (f .1) (c .1) in
-    (
-      λ o. subst (Turned (cycleIn (t .table) (t .settings) (st .before .state) b)) there (c .0 o),
+    let split : rowBytes (v ++ (w ++ rest)) ++ tail ≡ rowBytes v ++ (rowBytes w ++ (rowBytes rest ++ tail)) =
+    ap (λ (y : List ℕ). y ++ tail) (row-append v (w ++ rest) ∙ ap (λ (y : List ℕ). rowBytes v ++ y) (row-append w rest))
+    ∙ append-assoc (rowBytes v) (rowBytes w ++ rowBytes rest) tail
+    ∙ ap (λ (y : List ℕ). rowBytes v ++ y) (append-assoc (rowBytes w) (rowBytes rest) tail) in
+    let whole-is : e ≡ h ++ (rowBytes v ++ (rowBytes w ++ (rowBytes rest ++ tail))) = is ∙ ap (λ (y : List ℕ). h ++ y) split in
+    let there : w ≡ recordsIn e (length v) (length w) =
+    sym (ap (λ (y : List ℕ). recordsIn y (length v) (length w)) whole-is ∙ read-after h v w (rowBytes rest ++ tail) lh (f .0)) in
+    let before : v ≡ recordsIn e 0 (length v) = sym (ap (λ (y : List ℕ). recordsIn y 0 (length v)) whole-is ∙ read-front h v (rowBytes w ++ (rowBytes rest ++ tail)) lh g) in
+    let onward : e ≡ h ++ (rowBytes ((v ++ w) ++ rest) ++ tail) = is ∙ ap (λ (y : List Record). h ++ (rowBytes y ++ tail)) (sym (append-assoc v w rest)) in
+    let x-after = stood false t r st v (l .0) (t .settings .x) x in
+    let z-after = stood true t r st v (l .0) (t .settings .z) z in
+    let more = read-from t h tail e (v ++ w) sts (runAfter t (st .place) r) s lh onward (fitting-append v w g (f .0)) (f .1) (c .1) (l .1) x-after z-after in (
+      λ o. record {
+        x = ap (λ (q : Run). q .state .x) (l .0 .begun) ∙ x ∙ ap (lastOf (λ q. q .x) (t .settings .x)) before;
+        z = ap (λ (q : Run). q .state .z) (l .0 .begun) ∙ z ∙ ap (lastOf (λ q. q .z) (t .settings .z)) before;
+        turned = subst (Turned (cycleIn (t .table) (t .settings) (st .before .state) b)) there (c .0 o);
+      },
       subst (λ (n : ℕ). EachFrom (CutIn t e) n sts) (length-append v w) more,
     )
 
@@ -153,8 +179,8 @@ module _ (b : List ℕ) (header : headerSize ≤ length b) where
       let a = answerBy (x .outcome .how) (x .outcome .run .count) in
       let e = laid b (recordStart 0) (rowBytes (recordsOf (x .steps))) in
       let f = form b (recordsOf (x .steps)) header a in record {
-        cycles = read-from t (f .before) (f .behind) (headed a e) [] (x .steps) (f .size) (f .is)
-            (chain-fits t known range (x .steps) r (x .outcome .run) sound (omega arith) l) (every-cycle t (x .steps) r (x .outcome .run) l);
+        cycles = read-from t (f .before) (f .behind) (headed a e) [] (x .steps) r (x .outcome .run) (f .size) (f .is) tt
+            (chain-fits t known range (x .steps) r (x .outcome .run) sound (omega arith) l) (every-cycle t (x .steps) r (x .outcome .run) l) l refl refl;
       }
 
   main-shown : (t : Task) → Table (t .table) → InRange (t .settings) → Sound (startOf (t .settings) .state) → (f : Found) → Shown t b (mainBy t f)

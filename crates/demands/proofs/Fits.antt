@@ -1,17 +1,17 @@
 -- The numbers of every record that a run writes fit their places in the list, so that its bytes have one reading.
 -- Assumes nothing.
-use mathlib.Core.Path.{_≡_, refl, sym, ap, _∙_, subst}
+use mathlib.Core.Path.{_≡_, refl, sym, subst}
 use mathlib.Core.Bool.{Bool, true, false, cond}
 use mathlib.Core.List.{List, [], _∷_, _++_}
-use Prim.Native.Nat.{ℕ, _+_, _-_, _<_, _≤_, _^_}
+use Prim.Native.Nat.{ℕ, _+_, _-_, _<_, _^_}
 use native.Mathlib.Omega.{arith}
 use lib.IntN.{ℤ, pos, natAbs, _-ℤ_}
-use lib.ListN.{length, getD}
+use lib.ListN.{getD}
 use mir.Syntax.{w32}
 use mir.Val.{SFits}
 use Rattle.whole.specs.Position.{inTable}
 use Rattle.whole.proofs.Integers.{whole, sub-in, abs}
-use Rattle.whole.proofs.Positions.{InTable, in-range}
+use Rattle.whole.proofs.Positions.{in-range}
 use Rattle.moves.specs.Form.{Fitting, AllFitting}
 use Rattle.moves.specs.declared.record.Record.{Record}
 use Rattle.block.specs.Rules.{has}
@@ -19,26 +19,23 @@ use Rattle.block.specs.Words.{mFirst, dFirst}
 use Rattle.block.specs.Worded.{Worded}
 use Rattle.block.specs.declared.codes.Motion.the-variants as motion
 use Rattle.block.specs.declared.words.Block.{Block}
-use Rattle.cycles.specs.Limits.{outside}
-use Rattle.turning.specs.Turning.{turning}
 use Rattle.turning.specs.declared.cycle.Cycle.{Cycle}
 use Rattle.turning.proofs.Counts as turn
-use Rattle.grooving.specs.Grooving.{grooving}
 use Rattle.grooving.specs.declared.groove.Groove.{Groove}
 use Rattle.grooving.proofs.Counts as groove
 use Rattle.state.specs.Modal.{fSlot, tSlot, codeIn, feedAfter, blockMotion, settled}
-use Rattle.state.specs.Target.{offsetOf, targetX, targetZ, Table, Sound, Sent}
+use Rattle.state.specs.Target.{offsetOf, targetX, targetZ, Table, Sound}
 use Rattle.state.specs.declared.modal.Kept.{Kept}
 use Rattle.state.specs.declared.modal.Kept.the-variants as kept
 use Rattle.state.specs.declared.modal.State.{State}
 use Rattle.state.proofs.Ranges.{settled-sound, sent-by, near-x, near-z}
 use Rattle.deeds.specs.Deed.{hasPath, isFacing, cycleOf, grooveOf, moveOf, deedOf}
-use Rattle.deeds.specs.Judge.{lengthWrong, endsOutside}
+use Rattle.deeds.specs.Judge.{lengthWrong}
 use Rattle.deeds.specs.declared.deed.Deed.{Deed}
 use Rattle.deeds.specs.declared.deed.Deed.the-variants as deed
 use Rattle.deeds.specs.declared.deed.Sending.{Sending}
 use Rattle.deeds.proofs.Judging.{lengths-turn, lengths-groove}
-use Rattle.machine.specs.Blocks.{sendingOf, deedIn, askedIn, alarmIn, doneRecords, doneState}
+use Rattle.machine.specs.Blocks.{sendingOf, deedIn, alarmIn, doneRecords, doneState}
 use Rattle.machine.specs.Known.{InRange}
 use Rattle.machine.specs.Writes.{sSlot, oneIf, speedOf, toolOf, mOf, dwellOf, speedAndTool, spindleAndCoolant, doing, moved, done, stops, stopping, writes}
 use Rattle.machine.specs.declared.run.Settings.{Settings}
@@ -229,8 +226,8 @@ module _ (table : List ℤ) (set : Settings) (s : State) (b : Block) (known : Ta
         fitting-append (speedAndTool t b) (spindleAndCoolant t b ++ (doing t d ++ stopping (done t d) b)) before-fitting
         (fitting-append (spindleAndCoolant t b) (doing t d ++ stopping (done t d) b) switched-fitting
         (fitting-append (doing t d) (stopping (done t d) b)
-          (doing-fitting t d at-x at-z at-f deed-in-fits (all-passed table set s b left well .lengths))
-          after-fitting))
+        (doing-fitting t d at-x at-z at-f deed-in-fits (all-passed table set s b left well .lengths))
+        after-fitting))
 
   pub feed-after : doneState table set s b .f < 10_000_000
   unfolding doneState

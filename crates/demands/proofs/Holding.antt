@@ -3,7 +3,7 @@
 use mathlib.Core.Path.{_≡_, refl, sym, ap, _∙_, subst}
 use mathlib.Core.Bool.{Bool, true, false, cond}
 use mathlib.Core.List.{List, [], _∷_, _++_, append-assoc}
-use Prim.Native.Nat.{ℕ, _+_, _-_, _*_, _/_, _%_, _<_, _≤_}
+use Prim.Native.Nat.{ℕ, _+_, _-_, _*_, _/_, _%_, _≤_}
 use native.Mathlib.Omega.{arith}
 use lib.Dec.{ltb}
 use lib.IntN.{ℤ}
@@ -15,7 +15,7 @@ use Rattle.whole.proofs.Laying.{laid-nil}
 use Rattle.moves.specs.Form.{headerSize, recordStart, recordLimit, roomOf, headerBytes, rowBytes, listBytes, AllFitting, LawfulList}
 use Rattle.moves.specs.Reading.{recordsIn, countIn, listIn, rowIn}
 use Rattle.moves.specs.declared.record.Record.{Record}
-use Rattle.moves.proofs.OneReading.{length-row, row-read, read-after, list-read, one-reading}
+use Rattle.moves.proofs.OneReading.{length-row, read-after, list-read, one-reading}
 use Rattle.tape.specs.Lines.{lines}
 use Rattle.reading.specs.Finding.{findProgram}
 use Rattle.reading.specs.Reading.{readOf}
@@ -31,14 +31,14 @@ use Rattle.machine.proofs.Running.{done-few, room-few, room-fits}
 use Rattle.steps.specs.Ahead.{mostCalls}
 use Rattle.steps.specs.Steps.{Task, taskOf, Step, blockOn, runAfter}
 use Rattle.steps.specs.declared.step.Run.{Run}
-use Rattle.interpreter.specs.Answers.{countOf, Result, refused, answerBy, resultOf, startOf, mainBy, mainRun, readThen, longestTape, whole, headed, laidBy, answerOf, bufferOf}
+use Rattle.interpreter.specs.Answers.{countOf, Result, refused, answerBy, resultOf, startOf, mainBy, mainRun, readThen, longestTape, whole, headed, laidBy}
 use Rattle.interpreter.specs.Runs.{recordsOf, called, programRun}
 use Rattle.interpreter.specs.Wrong.{settingsWrong, Right}
 use Rattle.interpreter.specs.declared.interpret.Answer.{Answer}
 use Rattle.interpreter.specs.declared.interpret.Answer.the-variants.{Complete, Alarm}
 use Rattle.interpreter.proofs.Right.{right}
 use Rattle.demands.specs.Demands.{Front, HoldsAfter, IsList, DemandOne, DemandTwo}
-use Rattle.demands.specs.Steps.{Done, Linked}
+use Rattle.demands.specs.Steps.{Linked}
 use Rattle.demands.proofs.Buffers.{AllFit, chain-fits, Form, form}
 use Rattle.demands.proofs.Cycles.{counted}
 use Rattle.demands.proofs.Demands.{count-by}
@@ -125,9 +125,9 @@ listed a b e rs f lawful count k c =
     let front : take headerSize e ≡ headerBytes count = subst (λ (x : Answer). Front x b e) k (f .front) in
     let before : f .before ≡ headerBytes count = sym (ap (take headerSize) (f .is) ∙ take-at (f .before) (rowBytes rs ++ f .behind) headerSize (f .size)) ∙ front in
     let is : e ≡ listBytes rs ++ f .behind =
-        f .is
-        ∙ ap (λ (x : List ℕ). x ++ (rowBytes rs ++ f .behind)) (before ∙ ap headerBytes c)
-        ∙ sym (append-assoc (headerBytes (length rs)) (rowBytes rs) (f .behind)) in record {
+    f .is
+    ∙ ap (λ (x : List ℕ). x ++ (rowBytes rs ++ f .behind)) (before ∙ ap headerBytes c)
+    ∙ sym (append-assoc (headerBytes (length rs)) (rowBytes rs) (f .behind)) in record {
       lawful = lawful;
       reads = ap listIn is ∙ list-read rs (f .behind) lawful;
       header = ap countIn is ∙ list-count rs (f .behind) lawful ∙ sym c;

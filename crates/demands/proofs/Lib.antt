@@ -6,3 +6,4 @@ pub mod Demands
 pub mod Fits
 pub mod Buffers
 pub mod Holding
+pub mod Standing

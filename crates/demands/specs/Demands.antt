@@ -55,10 +55,19 @@ unfoldable pub EachFrom : (Step → ℕ → Type 0) → ℕ → List Step → Ty
 EachFrom P k [] = Unit {0}
 EachFrom P k (st ∷ sts) = P st k × EachFrom P (k + length (st .records)) sts
 
+-- where an axis stands after some records, from x on; f is X or Z of a record
+abbrev pub lastOf : (Record → ℤ) → ℤ → List Record → ℤ
+lastOf f x [] = x
+lastOf f x (r ∷ rs) = lastOf f (f r) rs
+
+-- a G84 in the buffer: it starts where the records before it have left the axes, and its records keep its promise
+pub record TurnedIn (t : Task) (e : List ℕ) (st : Step) (k : ℕ) : Type 0 where
+  pub x : st .before .state .x ≡ lastOf (λ r. r .x) (t .settings .x) (recordsIn e 0 k)
+  pub z : st .before .state .z ≡ lastOf (λ r. r .z) (t .settings .z) (recordsIn e 0 k)
+  pub turned : Turned (cycleIn (t .table) (t .settings) (st .before .state) (blockOn (t .tape) (st .place))) (recordsIn e k (length (st .records)))
+
 abbrev pub CutIn : Task → List ℕ → Step → ℕ → Type 0
-CutIn t e st k =
-    opensTurning (blockOn (t .tape) (st .place)) ≡ true
-    → Turned (cycleIn (t .table) (t .settings) (st .before .state) (blockOn (t .tape) (st .place))) (recordsIn e k (length (st .records)))
+CutIn t e st k = opensTurning (blockOn (t .tape) (st .place)) ≡ true → TurnedIn t e st k
 
 -- DEMAND 3, of every tape, table, settings and buffer b, said of the bytes that are in the buffer after the run
 abbrev pub DemandThreeInBuffer : List ℕ → List ℤ → Settings → List ℕ → Type 0
