@@ -1,0 +1,8 @@
+-- The laws of this crate, for the crates above it.
+pub mod Digits
+pub mod Writing
+pub mod Numbers
+pub mod Reading
+pub mod Lengths
+pub mod Made
+pub mod Examples

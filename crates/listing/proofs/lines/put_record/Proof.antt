@@ -1,0 +1,99 @@
+-- `listing::lines::put_record` meets its contract.
+use mathlib.Core.Path.{_≡_, ap}
+use mathlib.Core.List.{[], _∷_, _++_}
+use lib.IntN.{ℤ}
+use mir.Syntax.{w32}
+use mir.Val.{toZ, ofZ}
+use borrow.Author.Needs.{needs}
+use Rattle.moves.specs.Form.{Fitting}
+use Rattle.listing.specs.Listing.{space, signed}
+use Rattle.listing.proofs.Made.{kind-room, flags-room, x-room, z-room, value-room, line-made}
+use Rattle.listing.proofs.Writing.{wrote-as}
+use Rattle.listing.proofs.lines.put_record.Statement.{statement}
+use Rattle.listing.proofs.lines.put_record.Tie as tie
+
+-- the numbers of a record fit their types, and X and Z are as the machine reads them back from their bits
+fitting : (c : tie.Start) → Fitting (c .args .what)
+fitting c = record { kind = search needs; flags = search needs; x = search needs; z = search needs; value = search needs }
+
+same-x : (c : tie.After-struct-told) → let x = c .before .before .before .before .before .before .before .before .before .before .before .before .before .args .what .x in toZ w32 (ofZ w32 x) ≡ x
+same-x c = search needs
+
+same-z : (c : tie.After-struct-told2) → let z = c .before .before .before .before .before .before .before .before .before .before .before .before .before .before .before .before .before .before .args .what .z in toZ w32 (ofZ w32 z) ≡ z
+same-z c = search needs
+
+-- the room and the bytes of a signed number
+as-read : {a b : ℤ} → a ≡ b → signed a ++ (space ∷ []) ≡ signed b ++ (space ∷ [])
+as-read e = ap (λ (v : ℤ). signed v ++ (space ∷ [])) e
+
+cast-put-number : tie.Need-cast-put-number
+cast-put-number c = search needs
+
+put-number-requires : tie.Need-put-number-requires
+put-number-requires c κs = let s = c .before .before .before in kind-room (s .args .out .now) (s .args .at) (s .args .what) (fitting s) (s .pre)
+
+cast-put-number-2 : tie.Need-cast-put-number-2
+cast-put-number-2 c = search needs
+
+put-number-requires-2 : tie.Need-put-number-requires-2
+put-number-requires-2 c κs =
+    let p1 = c .before .before .before .before in
+    let s = p1 .before .before .before .before in
+    flags-room (s .args .out .now) (s .args .at) (s .args .what) (fitting s) (s .pre) (p1 .put-number .ensures)
+
+put-signed-requires : tie.Need-put-signed-requires
+put-signed-requires c κs =
+    let p2 = c .before .before .before .before in
+    let p1 = p2 .before .before .before .before .before in
+    let s = p1 .before .before .before .before in
+    rw (same-x c) (x-room (s .args .out .now) (s .args .at) (s .args .what) (fitting s) (s .pre) (p1 .put-number .ensures) (p2 .put-number2 .ensures))
+
+put-signed-requires-2 : tie.Need-put-signed-requires-2
+put-signed-requires-2 c κs =
+    let p3 = c .before .before .before .before in
+    let p2 = p3 .before .before .before .before .before in
+    let p1 = p2 .before .before .before .before .before in
+    let s = p1 .before .before .before .before in
+    rw (same-z c) (z-room (s .args .out .now) (s .args .at) (s .args .what) (fitting s) (s .pre) (p1 .put-number .ensures) (p2 .put-number2 .ensures) (wrote-as (as-read (same-x (p3 .before))) (p3 .put-signed .ensures)))
+
+cast-put-number-3 : tie.Need-cast-put-number-3
+cast-put-number-3 c = search needs
+
+put-number-requires-3 : tie.Need-put-number-requires-3
+put-number-requires-3 c κs =
+    let p4 = c .before .before .before .before in
+    let p3 = p4 .before .before .before .before .before in
+    let p2 = p3 .before .before .before .before .before in
+    let p1 = p2 .before .before .before .before .before in
+    let s = p1 .before .before .before .before in
+    value-room (s .args .out .now) (s .args .at) (s .args .what) (fitting s) (s .pre) (p1 .put-number .ensures) (p2 .put-number2 .ensures) (wrote-as (as-read (same-x (p3 .before))) (p3 .put-signed .ensures))
+    (wrote-as (as-read (same-z (p4 .before))) (p4 .put-signed2 .ensures))
+
+same-length : tie.Need-same-length
+same-length c = search needs
+
+returns : tie.Need-returns
+returns c =
+    let p5 = c .before .before in
+    let p4 = p5 .before .before .before .before .before in
+    let p3 = p4 .before .before .before .before .before in
+    let p2 = p3 .before .before .before .before .before in
+    let p1 = p2 .before .before .before .before .before in
+    let s = p1 .before .before .before .before in
+    line-made (s .args .out .now) (s .args .at) (s .args .what) (fitting s) (s .pre) (p1 .put-number .ensures) (p2 .put-number2 .ensures) (wrote-as (as-read (same-x (p3 .before))) (p3 .put-signed .ensures))
+    (wrote-as (as-read (same-z (p4 .before))) (p4 .put-signed2 .ensures)) (p5 .put-number3 .ensures)
+
+pub put-record-spec : {M : Type 1} → statement M
+put-record-spec =
+    tie.close
+    (tie.spec
+    cast-put-number
+    put-number-requires
+    cast-put-number-2
+    put-number-requires-2
+    put-signed-requires
+    put-signed-requires-2
+    cast-put-number-3
+    put-number-requires-3
+    same-length
+    returns)

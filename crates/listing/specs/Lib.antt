@@ -1,0 +1,3 @@
+-- The definitions that the contracts of this crate cite, and those of the crates above it.
+pub mod Listing
+pub mod Wrote

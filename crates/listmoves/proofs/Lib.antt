@@ -1,0 +1,2 @@
+-- The law of this program.
+pub mod Listed

@@ -1,0 +1,2 @@
+-- What this program prints.
+pub mod Printed
