@@ -7,6 +7,7 @@ use tape::number::Number;
 ghost use Prim.Native.Nat.{_+_, _≤_};
 ghost use lib.ListN.{length};
 ghost use Rattle.moves.specs.Form.{headerSize, recordSize};
+ghost use Rattle.manual.specs.Texts.{FromOne};
 
 // The first line of the listing that is not as it should be counts from 1.
 pub enum Verdict {
@@ -165,7 +166,9 @@ fn is_header(buf: &[u8], count: usize, want: &[u8], w: Wanted) -> bool
 }
 
 // Compares a complete list. A count above the limit, or one that the buffer has no room for, differs at once.
-fn compare_list(buf: &[u8], count: usize, want: &[u8]) -> Verdict {
+fn compare_list(buf: &[u8], count: usize, want: &[u8]) -> Verdict
+    ensures { λ r. ⌜ FromOne r ⌝ }
+{
     if count > moves::RECORD_LIMIT {
         return Verdict::Differs(1);
     }
@@ -192,7 +195,9 @@ fn compare_list(buf: &[u8], count: usize, want: &[u8]) -> Verdict {
 }
 
 // Compares an alarm: "the word ALARM, number, place, count".
-fn compare_alarm(number: u8, place: usize, count: usize, want: &[u8]) -> Verdict {
+fn compare_alarm(number: u8, place: usize, count: usize, want: &[u8]) -> Verdict
+    ensures { λ r. ⌜ FromOne r ⌝ }
+{
     let mut line = [0u8; WIDTH];
     let mut n = crate::text::put(&mut line, 0, b"ALARM");
     n = crate::text::put_next(&mut line, n, wide(number));
@@ -209,7 +214,9 @@ fn compare_alarm(number: u8, place: usize, count: usize, want: &[u8]) -> Verdict
 }
 
 // Compares what the interpreter answered and wrote with the listing that is wanted.
-pub fn compare(answer: Answer, buf: &[u8], want: &[u8]) -> Verdict {
+pub fn compare(answer: Answer, buf: &[u8], want: &[u8]) -> Verdict
+    ensures { λ r. ⌜ FromOne r ⌝ }
+{
     match answer {
         Answer::Complete(count) => compare_list(buf, count, want),
         Answer::Alarm(number, place, count) => compare_alarm(number, place, count, want),

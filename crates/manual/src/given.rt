@@ -5,8 +5,10 @@ use cycles::limits::Span;
 use machine::run::Settings;
 use tape::number::Kind;
 use tape::number::Number;
+ghost use mathlib.Core.Path.{_≡_};
 ghost use Prim.Native.Nat.{_≤_};
 ghost use lib.ListN.{length};
+ghost use Rattle.manual.specs.Given.{usual, settingsOf};
 
 // Where the tape begins, and whether each line before it could be read.
 pub struct Start {
@@ -45,7 +47,9 @@ pub const ALL: usize = 219;
 const OFFSET: usize = 220;
 
 // 01, of `listmoves`: "with main 1, lowest subroutine 80, retract 500, start X 60000 Z 50000, limits -200000 to 200000, table zero". Its buffer has room for 4,000 records.
-pub fn usual() -> [i32; ALL] {
+pub fn usual() -> [i32; ALL]
+    ensures { λ r. ⌜ r ≡ usual ⌝ }
+{
     let mut given = [0i32; ALL];
     given[MAIN] = 1;
     given[LOWEST] = 80;
@@ -61,7 +65,9 @@ pub fn usual() -> [i32; ALL] {
     given
 }
 
-pub fn settings_of(given: &[i32; ALL]) -> Settings {
+pub fn settings_of(given: &[i32; ALL]) -> Settings
+    ensures { λ r. ⌜ r ≡ settingsOf (now (given .entry)) ⌝ }
+{
     let x = Span {
         lowest: given[X_LOW],
         highest: given[X_HIGH],

@@ -1,7 +1,9 @@
 // Texts: where a byte stands, whether a part is a word, and a line made of words and numbers, byte for byte as `listmoves` prints it.
 // A line is an array of 80 bytes, nearly twice what the longest line of a listing has; a text that does not fit is cut off at its end.
+ghost use mathlib.Core.Path.{_≡_};
 ghost use Prim.Native.Nat.{_≤_};
 ghost use lib.ListN.{length};
+ghost use Rattle.manual.specs.Texts.{sameText};
 
 pub const WIDTH: usize = 80;
 
@@ -21,7 +23,9 @@ pub fn find(s: &[u8], from: usize, b: u8) -> usize
 }
 
 // Whether two texts are the same.
-pub fn same(a: &[u8], b: &[u8]) -> bool {
+pub fn same(a: &[u8], b: &[u8]) -> bool
+    ensures { λ r. ⌜ r ≡ sameText (now (a .entry)) (now (b .entry)) ⌝ }
+{
     if a.len() != b.len() {
         return false;
     }

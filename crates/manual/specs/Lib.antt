@@ -1,0 +1,3 @@
+-- The definitions that the contracts of this program cite.
+pub mod Texts
+pub mod Given
