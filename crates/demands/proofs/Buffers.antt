@@ -5,23 +5,14 @@ use mathlib.Core.Bool.{Bool, true, false, cond}
 use mathlib.Core.List.{List, [], _∷_, _++_, append-assoc}
 use Prim.Native.Nat.{ℕ, _+_, _-_, _<_, _≤_}
 use native.Mathlib.Omega.{arith}
-use lib.Dec.{ltb}
 use lib.IntN.{ℤ}
 use lib.ListN.{length, take, drop, length-append}
 use lib.Seq.{length-take-le, take-at, drop-at}
-use borrow.Author.Tests.{ltb-false}
 use Rattle.whole.specs.Bytes.{laid}
 use Rattle.moves.specs.Form.{headerSize, recordStart, headerBytes, rowBytes, AllFitting}
 use Rattle.moves.specs.Reading.{recordsIn}
 use Rattle.moves.specs.declared.record.Record.{Record}
 use Rattle.moves.proofs.OneReading.{length-row, length-header, row-append, read-after}
-use Rattle.tape.specs.Lines.{lines}
-use Rattle.reading.specs.Finding.{findProgram}
-use Rattle.reading.specs.Reading.{readOf}
-use Rattle.reading.specs.declared.find.Found.{Found}
-use Rattle.reading.specs.declared.find.Found.the-variants.{At, Nowhere}
-use Rattle.reading.specs.declared.read.Read.{Read}
-use Rattle.reading.specs.declared.read.Read.the-variants as read
 use Rattle.turning.specs.Turned.{Turned}
 use Rattle.state.specs.Target.{Table, Sound}
 use Rattle.state.proofs.Ranges.{start-sound}
@@ -33,18 +24,17 @@ use Rattle.steps.specs.Ahead.{mostCalls}
 use Rattle.steps.specs.Steps.{Task, taskOf, Step, blockOn, runAfter}
 use Rattle.steps.specs.declared.step.Run.{Run}
 use Rattle.steps.proofs.Stepping.{worded-on}
-use Rattle.interpreter.specs.Answers.{Result, refused, answerBy, resultOf, startOf, mainBy, mainRun, readThen, longestTape, whole, headed, laidBy}
-use Rattle.interpreter.specs.Runs.{recordsOf, called, programRun}
-use Rattle.interpreter.specs.Wrong.{settingsWrong, Right}
+use Rattle.interpreter.specs.Answers.{Result, refused, answerBy, resultOf, startOf, whole, headed, laidBy}
+use Rattle.interpreter.specs.Runs.{recordsOf, programRun}
 use Rattle.interpreter.specs.declared.interpret.Answer.{Answer}
 use Rattle.interpreter.specs.declared.interpret.Answer.the-variants.{Complete, Alarm}
-use Rattle.interpreter.proofs.Right.{right}
-use Rattle.demands.specs.Demands.{Each, EveryCycle, EachFrom, lastOf, CutIn, readTask, task, Front, DemandThreeInBuffer}
+use Rattle.demands.specs.Demands.{Each, EveryCycle, EachFrom, lastOf, CutIn, task, Front, DemandThreeInBuffer}
 use Rattle.demands.specs.Steps.{Done, Linked}
 use Rattle.demands.proofs.Cycles.{every-cycle}
 use Rattle.demands.proofs.Fits.{fitting-append, block-fitting, feed-after}
 use Rattle.demands.proofs.Standing.{last-append, block-stands}
-use Rattle.demands.proofs.Linked.{free-own, called-leads, program-leads}
+use Rattle.demands.proofs.Linked.{free-own, program-leads}
+use Rattle.demands.proofs.Results.{every-result}
 
 -- ---- every record of a chain of steps fits
 abbrev pub AllFit : List Step → Type 0
@@ -57,7 +47,7 @@ module _ (t : Task) (known : Table (t .table)) (range : InRange (t .settings)) w
   chain-fits [] r s h f l = tt
   chain-fits (st ∷ sts) r s h f l =
       let b = blockOn (t .tape) (st .place) in
-      let k = free-own t (l .0 .program) (l .0 .calls) (called t 0) (λ p n u. called-leads t 0 p n u) (st .place) r (l .0 .free) in
+      let k = free-own t (l .0 .program) (l .0 .calls) (st .place) r (l .0 .free) in
       let w = worded-on (t .tape) (st .place) in (
         subst AllFitting (sym (l .0 .wrote)) (block-fitting (t .table) (t .settings) (r .state) b known range h f w (t .room - r .count) k),
         chain-fits sts (runAfter t (st .place) r) s (sound-after (t .table) (t .settings) (r .state) b (t .room - r .count) k range h)
@@ -168,46 +158,25 @@ none-shown : (t : Task) (b : List ℕ) (alarm place : ℕ) → Shown t b (refuse
 unfolding EachFrom
 none-shown t b alarm place = record { cycles = tt }
 
-module _ (b : List ℕ) (header : headerSize ≤ length b) where
-  run-shown : (t : Task) → Table (t .table) → InRange (t .settings) → Sound (startOf (t .settings) .state) → (p : ℕ)
-      → Shown t b (resultOf (programRun t p mostCalls (startOf (t .settings))))
-  unfolding resultOf laidBy
-  run-shown t known range sound p =
-      let r = startOf (t .settings) in
-      let x = programRun t p mostCalls r in
-      let l = program-leads t p mostCalls r in
-      let a = answerBy (x .outcome .how) (x .outcome .run .count) in
-      let e = laid b (recordStart 0) (rowBytes (recordsOf (x .steps))) in
-      let f = form b (recordsOf (x .steps)) header a in record {
-        cycles = read-from t (f .before) (f .behind) (headed a e) [] (x .steps) r (x .outcome .run) (f .size) (f .is) tt
-            (chain-fits t known range (x .steps) r (x .outcome .run) sound (omega arith) l) (every-cycle t (x .steps) r (x .outcome .run) l) l refl refl;
-      }
-
-  main-shown : (t : Task) → Table (t .table) → InRange (t .settings) → Sound (startOf (t .settings) .state) → (f : Found) → Shown t b (mainBy t f)
-  unfolding mainBy
-  main-shown t known range sound (At p) = run-shown t known range sound p
-  main-shown t known range sound Nowhere = none-shown t b _ 0
+run-shown : (b : List ℕ) → headerSize ≤ length b → (t : Task) → Table (t .table) → InRange (t .settings) → Sound (startOf (t .settings) .state) → (p : ℕ) → p < length (t .tape)
+    → Shown t b (resultOf (programRun t p mostCalls (startOf (t .settings))))
+unfolding resultOf laidBy
+run-shown b header t known range sound p on =
+    let r = startOf (t .settings) in
+    let x = programRun t p mostCalls r in
+    let l = program-leads t p mostCalls r on .linked in
+    let a = answerBy (x .outcome .how) (x .outcome .run .count) in
+    let e = laid b (recordStart 0) (rowBytes (recordsOf (x .steps))) in
+    let f = form b (recordsOf (x .steps)) header a in record {
+      cycles = read-from t (f .before) (f .behind) (headed a e) [] (x .steps) r (x .outcome .run) (f .size) (f .is) tt
+          (chain-fits t known range (x .steps) r (x .outcome .run) sound (omega arith) l) (every-cycle t (x .steps) r (x .outcome .run) l) l refl refl;
+    }
 
 module _ (tape : List ℕ) (table : List ℤ) (set : Settings) (b : List ℕ) where
-  read-shown : headerSize ≤ length b → Right table set → (r : Read) → Shown (readTask tape table set (length b) r) b (readThen tape table set (length b) r)
-  unfolding readThen mainRun
-  read-shown h k (read.Whole first end) =
-      let t = taskOf (take end tape) table set first (length b) in
-      main-shown b h t (k .offsets) (k .range) (start-sound (set .x) (set .z) (k .starts .x) (k .starts .z)) (findProgram (set .main) (lines (take end tape) first))
-  read-shown h k (read.Alarm alarm place) = none-shown (taskOf [] table set 0 (length b)) b alarm place
-
-  by-test : (t : Task) (c : Bool) (x y : Result) → Shown t b x → (c ≡ false → Shown t b y) → Shown t b (cond c x y)
-  by-test t true x y h k = h
-  by-test t false x y h k = k refl
-
   shown : Shown (task tape table set (length b)) b (whole tape table set (length b))
-  unfolding whole
   shown =
-      let t = task tape table set (length b) in
-      by-test t (settingsWrong table set) _ _ (none-shown t b _ 0) λ right-now.
-      by-test t (ltb longestTape (length tape)) _ _ (none-shown t b _ 0) λ short.
-      by-test t (ltb (length b) headerSize) _ _ (none-shown t b _ 0) λ long.
-      read-shown (ltb-false (length b) headerSize long) (right table set right-now) (readOf tape)
+      every-result (λ t. Shown t b) tape table set (length b) (λ t alarm place _ _ _. none-shown t b alarm place)
+      (λ h _ k first end p on. run-shown b h (taskOf (take end tape) table set first (length b)) (k .offsets) (k .range) (start-sound (set .x) (set .z) (k .starts .x) (k .starts .z)) p on)
 
   pub demand-three-in-buffer : DemandThreeInBuffer tape table set b
   demand-three-in-buffer = shown .cycles

@@ -12,16 +12,16 @@ use Rattle.machine.specs.Opens.{cycleIn}
 use Rattle.machine.proofs.Opening.{block-turned}
 use Rattle.steps.specs.Steps.{Task, Step, blockOn, runAfter}
 use Rattle.steps.specs.declared.step.Run.{Run}
-use Rattle.interpreter.specs.Runs.{recordsOf, called}
+use Rattle.interpreter.specs.Runs.{recordsOf}
 use Rattle.demands.specs.Steps.{Done, Linked}
 use Rattle.demands.specs.Demands.{Each, Cut, EveryCycle}
-use Rattle.demands.proofs.Linked.{free-own, called-leads}
+use Rattle.demands.proofs.Linked.{free-own}
 
 -- one step that was done
 cut : (t : Task) (r : Run) (st : Step) → Done t r st → Cut t st
 cut t r st d opens =
     let b = blockOn (t .tape) (st .place) in
-    let well = free-own t (d .program) (d .calls) (called t 0) (λ p n u. called-leads t 0 p n u) (st .place) r (d .free) in
+    let well = free-own t (d .program) (d .calls) (st .place) r (d .free) in
     let turned = block-turned (t .table) (t .settings) (r .state) b opens (t .room - r .count) well in
     subst (λ (v : List Record). Turned (cycleIn (t .table) (t .settings) (st .before .state) b) v) (sym (d .wrote))
     (subst (λ (q : Run). Turned (cycleIn (t .table) (t .settings) (q .state) b) (doneRecords (t .table) (t .settings) (r .state) b)) (sym (d .begun)) turned)

@@ -1,28 +1,18 @@
 -- Demands 1 and 2: what the buffer holds after any answer, and that a list's bytes have one reading.
 -- Assumes nothing.
 use mathlib.Core.Path.{_≡_, refl, sym, ap, _∙_, subst}
-use mathlib.Core.Bool.{Bool, true, false, cond}
 use mathlib.Core.List.{List, [], _∷_, _++_, append-assoc}
-use Prim.Native.Nat.{ℕ, _+_, _-_, _*_, _/_, _%_, _≤_}
+use Prim.Native.Nat.{ℕ, _+_, _-_, _*_, _/_, _%_, _<_, _≤_}
 use native.Mathlib.Omega.{arith}
-use lib.Dec.{ltb}
 use lib.IntN.{ℤ}
-use lib.ListN.{length, take, drop, length-append, length-drop}
+use lib.ListN.{length, take, drop, length-append, length-take, length-drop}
 use lib.Seq.{take-at, drop-at}
-use borrow.Author.Tests.{ltb-false}
 use Rattle.whole.specs.Bytes.{laid}
 use Rattle.whole.proofs.Laying.{laid-nil}
 use Rattle.moves.specs.Form.{headerSize, recordStart, recordLimit, roomOf, headerBytes, rowBytes, listBytes, AllFitting, LawfulList}
 use Rattle.moves.specs.Reading.{recordsIn, countIn, listIn, rowIn}
 use Rattle.moves.specs.declared.record.Record.{Record}
 use Rattle.moves.proofs.OneReading.{length-row, read-after, list-read, one-reading}
-use Rattle.tape.specs.Lines.{lines}
-use Rattle.reading.specs.Finding.{findProgram}
-use Rattle.reading.specs.Reading.{readOf}
-use Rattle.reading.specs.declared.find.Found.{Found}
-use Rattle.reading.specs.declared.find.Found.the-variants.{At, Nowhere}
-use Rattle.reading.specs.declared.read.Read.{Read}
-use Rattle.reading.specs.declared.read.Read.the-variants as read
 use Rattle.state.specs.Target.{Table, Sound}
 use Rattle.state.proofs.Ranges.{start-sound}
 use Rattle.machine.specs.Known.{InRange}
@@ -31,19 +21,20 @@ use Rattle.machine.proofs.Running.{done-few, room-few, room-fits}
 use Rattle.steps.specs.Ahead.{mostCalls}
 use Rattle.steps.specs.Steps.{Task, taskOf, Step, blockOn, runAfter}
 use Rattle.steps.specs.declared.step.Run.{Run}
-use Rattle.interpreter.specs.Answers.{countOf, Result, refused, answerBy, resultOf, startOf, mainBy, mainRun, readThen, longestTape, whole, headed, laidBy}
-use Rattle.interpreter.specs.Runs.{recordsOf, called, programRun}
-use Rattle.interpreter.specs.Wrong.{settingsWrong, Right}
+use Rattle.interpreter.specs.Answers.{countOf, Result, refused, answerBy, resultOf, startOf, longestTape, whole, headed, laidBy}
+use Rattle.interpreter.specs.Runs.{recordsOf, programRun}
 use Rattle.interpreter.specs.declared.interpret.Answer.{Answer}
 use Rattle.interpreter.specs.declared.interpret.Answer.the-variants.{Complete, Alarm}
-use Rattle.interpreter.proofs.Right.{right}
-use Rattle.demands.specs.Demands.{Front, HoldsAfter, IsList, DemandOne, DemandTwo}
+use Rattle.interpreter.specs.declared.run.How.{How}
+use Rattle.interpreter.specs.declared.run.How.the-variants.{Returned, Ended, Stopped}
+use Rattle.demands.specs.Demands.{Front, HoldsAfter, Told, IsList, DemandOne, DemandTwo}
 use Rattle.demands.specs.Steps.{Linked}
 use Rattle.demands.proofs.Buffers.{AllFit, chain-fits, Form, form}
 use Rattle.demands.proofs.Cycles.{counted}
 use Rattle.demands.proofs.Demands.{count-by}
 use Rattle.demands.proofs.Fits.{fitting-append}
-use Rattle.demands.proofs.Linked.{free-own, called-leads, program-leads}
+use Rattle.demands.proofs.Linked.{StopsOn, free-own, program-leads}
+use Rattle.demands.proofs.Results.{every-result}
 
 -- ---- along the chain
 all-fit : (sts : List Step) → AllFit sts → AllFitting (recordsOf sts)
@@ -57,7 +48,7 @@ unfolding Linked runAfter
 chain-room t [] r s h l = omega (arith, h, ap (λ (q : Run). q .count) l)
 chain-room t (st ∷ sts) r s h l =
     let b = blockOn (t .tape) (st .place) in
-    let k = free-own t (l .0 .program) (l .0 .calls) (called t 0) (λ p n u. called-leads t 0 p n u) (st .place) r (l .0 .free) in
+    let k = free-own t (l .0 .program) (l .0 .calls) (st .place) r (l .0 .free) in
     let few = done-few (t .table) (t .settings) (r .state) b (t .room - r .count) k in
     chain-room t sts (runAfter t (st .place) r) s (omega (arith, h, few)) (l .1)
 
@@ -88,9 +79,10 @@ module _ (a : Answer) (b e : List ℕ) (rs : List Record) (f : Form a b e rs) (f
       sized = omega (arith, length-append (f .before ++ rowBytes rs) (drop (recordStart (length rs)) b), rows, length-drop (recordStart (length rs)) b, room)
 
 -- ---- of a run
-record Shown (b : List ℕ) (x : Result) : Type 0 where
+record Shown (size : ℕ) (b : List ℕ) (x : Result) : Type 0 where
   one : HoldsAfter (x .answer) b (laidBy x b) (recordsOf (x .steps))
   two : (count : ℕ) → x .answer ≡ Complete count → IsList count (laidBy x b) (recordsOf (x .steps))
+  told : Told size (x .answer)
 
 no-list : (alarm place n count : ℕ) → Alarm alarm place n ≡ Complete count → ⊥
 no-list alarm place n count e = subst alarmed e tt
@@ -100,13 +92,22 @@ no-list alarm place n count e = subst alarmed e tt
     alarmed (Complete m) = ⊥
 
 -- an alarm before any block is begun
-none-shown : (b : List ℕ) (alarm place : ℕ) → Shown b (refused alarm place)
+none-shown : (size : ℕ) (b : List ℕ) (alarm place : ℕ) → 0 < alarm → place ≤ size → place ≤ longestTape → Shown size b (refused alarm place)
 unfolding laidBy recordsOf rowBytes rowIn
-none-shown b alarm place =
+none-shown size b alarm place some on near =
     let same : laid b (recordStart 0) [] ≡ b = laid-nil b (recordStart 0) in record {
       one = record { counted = refl; records = refl; front = ap (take headerSize) same; behind = ap (drop (recordStart 0)) same; size = ap length same };
       two = λ count e. absurd (no-list alarm place 0 count e);
+      told = record { number = some; place = on; near = near; count = omega arith };
     }
+
+-- the numbers of an answer that a run comes to
+told-by : (h : How) (n cut size : ℕ) → cut ≤ size → size ≤ longestTape → StopsOn cut h → n ≤ recordLimit → Told size (answerBy h n)
+unfolding answerBy
+told-by Ended n cut size short near on few = record { number = tt; place = omega arith; near = omega arith; count = few }
+told-by (Stopped alarm place) n cut size short near on few =
+    record { number = on .0; place = omega (arith, short, on .1); near = omega (arith, short, near, on .1); count = few }
+told-by Returned n cut size short near on few = record { number = omega arith; place = omega arith; near = omega arith; count = few }
 
 -- the count of a complete list
 complete-count : {a : Answer} {count : ℕ} → a ≡ Complete count → countOf a ≡ count
@@ -135,57 +136,44 @@ listed a b e rs f lawful count k c =
       alone = λ ss tail other same. sym (one-reading rs ss (f .behind) tail lawful other (sym is ∙ same));
     }
 
-module _ (b : List ℕ) (header : headerSize ≤ length b) (t : Task) (room : t .room ≡ roomOf (length b)) (known : Table (t .table)) (range : InRange (t .settings))
-    (sound : Sound (startOf (t .settings) .state)) where
-  run-shown : (p : ℕ) → Shown b (resultOf (programRun t p mostCalls (startOf (t .settings))))
-  unfolding resultOf laidBy listBytes
-  run-shown p =
-      let r = startOf (t .settings) in
-      let x = programRun t p mostCalls r in
-      let l = program-leads t p mostCalls r in
-      let rs = recordsOf (x .steps) in
-      let n = x .outcome .run .count in
-      let a = answerBy (x .outcome .how) n in
-      let e = laid b (recordStart 0) (rowBytes rs) in
-      let f : Form a b (headed a e) rs = form b rs header a in
-      let fits : AllFitting rs = all-fit (x .steps) (chain-fits t known range (x .steps) r (x .outcome .run) sound (omega arith) l) in
-      let are : n ≡ 0 + length rs = counted t (x .steps) r (x .outcome .run) l in
-      let many : n ≡ length rs = omega (arith, are) in
-      let few : n ≤ t .room = chain-room t (x .steps) r (x .outcome .run) (omega arith) l in
-      let inside : recordStart (length rs) ≤ length b = omega (arith, many, room-fits (length b) n header (omega (arith, few, room))) in
-      let lawful : LawfulList rs = record { few = omega (arith, many, few, room, room-few (length b)); each = fits } in record {
-        one = holds a b (headed a e) rs f fits (count-by (x .outcome .how) n ∙ many) inside;
-        two = λ count k. listed a b (headed a e) rs f lawful count k (sym (complete-count k) ∙ count-by (x .outcome .how) n ∙ many);
-      }
-
-  main-shown : (f : Found) → Shown b (mainBy t f)
-  unfolding mainBy
-  main-shown (At p) = run-shown p
-  main-shown Nowhere = none-shown b _ 0
+run-shown : (size : ℕ) (b : List ℕ) → headerSize ≤ length b → (t : Task) → length (t .tape) ≤ size → size ≤ longestTape → t .room ≡ roomOf (length b) → Table (t .table) → InRange (t .settings)
+    → Sound (startOf (t .settings) .state) → (p : ℕ) → p < length (t .tape) → Shown size b (resultOf (programRun t p mostCalls (startOf (t .settings))))
+unfolding resultOf laidBy listBytes
+run-shown size b header t short near room known range sound p on =
+    let r = startOf (t .settings) in
+    let x = programRun t p mostCalls r in
+    let leads = program-leads t p mostCalls r on in
+    let l = leads .linked in
+    let rs = recordsOf (x .steps) in
+    let n = x .outcome .run .count in
+    let a = answerBy (x .outcome .how) n in
+    let e = laid b (recordStart 0) (rowBytes rs) in
+    let f : Form a b (headed a e) rs = form b rs header a in
+    let fits : AllFitting rs = all-fit (x .steps) (chain-fits t known range (x .steps) r (x .outcome .run) sound (omega arith) l) in
+    let are : n ≡ 0 + length rs = counted t (x .steps) r (x .outcome .run) l in
+    let many : n ≡ length rs = omega (arith, are) in
+    let few : n ≤ t .room = chain-room t (x .steps) r (x .outcome .run) (omega arith) l in
+    let inside : recordStart (length rs) ≤ length b = omega (arith, many, room-fits (length b) n header (omega (arith, few, room))) in
+    let lawful : LawfulList rs = record { few = omega (arith, many, few, room, room-few (length b)); each = fits } in record {
+      one = holds a b (headed a e) rs f fits (count-by (x .outcome .how) n ∙ many) inside;
+      two = λ count k. listed a b (headed a e) rs f lawful count k (sym (complete-count k) ∙ count-by (x .outcome .how) n ∙ many);
+      told = told-by (x .outcome .how) n (length (t .tape)) size short near (leads .stops) (omega (arith, few, room, room-few (length b)));
+    }
 
 -- ---- of every input
+cut-short : (end : ℕ) (tape : List ℕ) → length (take end tape) ≤ length tape
+cut-short end tape = omega (arith, length-take end tape)
+
 module _ (tape : List ℕ) (table : List ℤ) (set : Settings) (b : List ℕ) where
-  read-shown : headerSize ≤ length b → Right table set → (r : Read) → Shown b (readThen tape table set (length b) r)
-  unfolding readThen mainRun
-  read-shown h k (read.Whole first end) =
-      main-shown b h (taskOf (take end tape) table set first (length b)) refl (k .offsets) (k .range)
-      (start-sound (set .x) (set .z) (k .starts .x) (k .starts .z)) (findProgram (set .main) (lines (take end tape) first))
-  read-shown h k (read.Alarm alarm place) = none-shown b alarm place
-
-  by-test : (c : Bool) (x y : Result) → Shown b x → (c ≡ false → Shown b y) → Shown b (cond c x y)
-  by-test true x y h k = h
-  by-test false x y h k = k refl
-
-  shown : Shown b (whole tape table set (length b))
-  unfolding whole
+  shown : Shown (length tape) b (whole tape table set (length b))
   shown =
-      by-test (settingsWrong table set) _ _ (none-shown b _ 0) λ settings.
-      by-test (ltb longestTape (length tape)) _ _ (none-shown b _ 0) λ short.
-      by-test (ltb (length b) headerSize) _ _ (none-shown b _ 0) λ long.
-      read-shown (ltb-false (length b) headerSize long) (right table set settings) (readOf tape)
+      every-result (λ _. Shown (length tape) b) tape table set (length b) (λ _ alarm place some on near. none-shown (length tape) b alarm place some on near)
+      (λ h near k first end p on.
+      run-shown (length tape) b h (taskOf (take end tape) table set first (length b)) (cut-short end tape) near refl (k .offsets) (k .range)
+      (start-sound (set .x) (set .z) (k .starts .x) (k .starts .z)) p on)
 
   pub demand-one : DemandOne tape table set b
-  demand-one = shown .one
+  demand-one = record { holds = shown .one; told = shown .told }
 
   pub demand-two : DemandTwo tape table set b
   demand-two = shown .two

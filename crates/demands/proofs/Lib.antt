@@ -1,6 +1,7 @@
 -- The proofs of this crate.
 pub mod Table
 pub mod Linked
+pub mod Results
 pub mod Cycles
 pub mod Demands
 pub mod Fits

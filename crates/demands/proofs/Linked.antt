@@ -3,7 +3,7 @@
 use mathlib.Core.Path.{_≡_, refl, sym, ap, _∙_, subst}
 use mathlib.Core.Bool.{Bool, cond}
 use mathlib.Core.List.{List, [], _∷_, _++_}
-use Prim.Native.Nat.{ℕ, zero, suc, _-_, _<_}
+use Prim.Native.Nat.{ℕ, zero, suc, _-_, _<_, _≤_}
 use native.Mathlib.Omega.{arith}
 use lib.Dec.{eqb}
 use lib.ListN.{length}
@@ -18,12 +18,50 @@ use Rattle.steps.specs.declared.ahead.What.{What}
 use Rattle.steps.specs.declared.ahead.What.the-variants.{On, Call, Jump, Return, End, Stop}
 use Rattle.steps.specs.declared.step.Did.{Did}
 use Rattle.steps.specs.declared.step.Run.{Run}
-use Rattle.steps.proofs.Places.{WhatOn}
+use Rattle.steps.proofs.Places.{FoundIn, first-on, WhatOn}
 use Rattle.steps.proofs.Stepping.{what-on}
-use Rattle.interpreter.specs.Runs.{Ran, pre, goBack, andThen, goOn, onward, blocks, enough, repeated, called, programRun}
+use Rattle.interpreter.specs.Runs.{Ran, ran, pre, goBack, andThen, goOn, onward, blocks, enough, repeated, called, programRun}
 use Rattle.interpreter.specs.declared.run.How.{How}
 use Rattle.interpreter.specs.declared.run.How.the-variants.{Returned, Ended, Stopped}
 use Rattle.demands.specs.Steps.{Done, Linked}
+
+-- ---- the block at a place
+module _ (t : Task) (program calls at : ℕ) (r : Run) where
+  abbrev own : ℕ
+  own = alarmIn (t .table) (t .settings) (r .state) (blockOn (t .tape) at) (t .room - r .count)
+
+  abbrev asked : ℕ
+  asked = alarmBy (whatOf t program calls at r)
+
+  none-asked : (a : ℕ) → cond (eqb a 0) own a ≡ 0 → a ≡ 0
+  none-asked zero h = refl
+  none-asked (suc a) h = absurd (omega (arith, ap (λ (b : Bool). cond b own (suc a)) (sym (ne-eqb (suc a) 0 (λ z. omega (arith, z)))) ∙ h))
+
+  pub free-asked : alarmAt t program calls at r ≡ 0 → asked ≡ 0
+  unfolding alarmAt
+  free-asked e = none-asked asked e
+
+  pub free-own : alarmAt t program calls at r ≡ 0 → own ≡ 0
+  unfolding alarmAt
+  free-own e = ap (λ (b : Bool). cond b own asked) (sym (eq-eqb asked 0 (none-asked asked e))) ∙ e
+
+  abbrev pub after : ℕ
+  after = textAt (t .tape) at .after
+
+  abbrev pub step : Step
+  step = record { place = at; before = r; records = recordsAt t program calls at r }
+
+  pub did-free : alarmAt t program calls at r ≡ 0 → didAt t program calls at r ≡ record { what = whatOf t program calls at r; run = runAfter t at r; after = after }
+  unfolding didAt
+  did-free e = rw (eq-eqb (alarmAt t program calls at r) 0 e) refl
+
+  pub did-alarm : (alarmAt t program calls at r ≡ 0 → ⊥) → didAt t program calls at r ≡ record { what = Stop (alarmAt t program calls at r) at; run = r; after = after }
+  unfolding didAt
+  did-alarm e = rw (ne-eqb (alarmAt t program calls at r) 0 e) refl
+
+  records-free : alarmAt t program calls at r ≡ 0 → recordsAt t program calls at r ≡ doneRecords (t .table) (t .settings) (r .state) (blockOn (t .tape) at)
+  unfolding recordsAt
+  records-free e = rw (eq-eqb (alarmAt t program calls at r) 0 e) refl
 
 -- ---- chains
 pub linked-append : (t : Task) (v w : List Step) (r q s : Run) → Linked t r v q → Linked t q w s → Linked t r (v ++ w) s
@@ -31,17 +69,29 @@ unfolding Linked
 linked-append t [] w r q s h k = subst (λ (x : Run). Linked t x w s) (sym h) k
 linked-append t (st ∷ v) w r q s h k = (h .0, linked-append t v w (runAfter t (st .place) r) q s (h .1) k)
 
+-- an alarm that stops a run has a number above 0 and a place on the tape
+abbrev pub StopsOn : ℕ → How → Type 0
+StopsOn n (Stopped alarm place) = (0 < alarm) × (place ≤ n)
+StopsOn n Returned = Unit {0}
+StopsOn n Ended = Unit {0}
+
 -- a run whose steps lead from r to where it ended
-abbrev pub Leads : Task → Run → Ran → Type 0
-Leads t r x = Linked t r (x .steps) (x .outcome .run)
+pub record Leads (t : Task) (r : Run) (x : Ran) : Type 0 where
+  pub linked : Linked t r (x .steps) (x .outcome .run)
+  pub stops : StopsOn (length (t .tape)) (x .outcome .how)
+
+-- a run that takes no step
+none-taken : (t : Task) (h : How) (r : Run) → StopsOn (length (t .tape)) h → Leads t r (ran h r [])
+unfolding Linked
+none-taken t h r s = record { linked = refl; stops = s }
 
 leads-pre : (t : Task) (v : List Step) (x : Ran) (r q : Run) → Linked t r v q → Leads t q x → Leads t r (pre v x)
 unfolding pre
-leads-pre t v x r q h k = linked-append t v (x .steps) r q (x .outcome .run) h k
+leads-pre t v x r q h k = record { linked = linked-append t v (x .steps) r q (x .outcome .run) h (k .linked); stops = k .stops }
 
 leads-back : (t : Task) (h : How) (x : Ran) (k : Run → Ran) (r : Run) → Leads t r x → ((q : Run) → Leads t q (k q)) → Leads t r (goBack h x k)
 unfolding goBack
-leads-back t Returned x k r p f = leads-pre t (x .steps) (k (x .outcome .run)) r (x .outcome .run) p (f (x .outcome .run))
+leads-back t Returned x k r p f = leads-pre t (x .steps) (k (x .outcome .run)) r (x .outcome .run) (p .linked) (f (x .outcome .run))
 leads-back t Ended x k r p f = p
 leads-back t (Stopped alarm place) x k r p f = p
 
@@ -49,7 +99,8 @@ leads-then : (t : Task) (x : Ran) (k : Run → Ran) (r : Run) → Leads t r x �
 unfolding andThen
 leads-then t x k r p f = leads-back t (x .outcome .how) x k r p f
 
-module _ (t : Task) (program calls : ℕ) (call : ℕ → ℕ → Run → Ran) (call-leads : (p n : ℕ) (r : Run) → Leads t r (call p n r)) where
+module _ (t : Task) (program calls : ℕ) (line : program ≤ length (t .tape)) (call : ℕ → ℕ → Run → Ran)
+    (call-leads : (p n : ℕ) (r : Run) → p ≤ length (t .tape) → Leads t r (call p n r)) where
   -- ---- what is asked of the runner after a step that was taken
   one : (r q : Run) (st : Step) → Done t r st → runAfter t (st .place) r ≡ q → Linked t r (st ∷ []) q
   unfolding Linked
@@ -61,98 +112,70 @@ module _ (t : Task) (program calls : ℕ) (call : ℕ → ℕ → Run → Ran) (
   went k f On r q after st none on l = leads-pre t (st ∷ []) (k after q) r q l (f after q)
   went k f (Jump p) r q after st none on l = leads-pre t (st ∷ []) (k p q) r q l (f p q)
   went k f (Call p n) r q after st none on l =
-      leads-pre t (st ∷ []) (andThen (call p n q) (k after)) r q l (leads-then t (call p n q) (k after) q (call-leads p n q) (f after))
-  went k f Return r q after st none on l = l
-  went k f End r q after st none on l = l
+      leads-pre t (st ∷ []) (andThen (call p n q) (k after)) r q l (leads-then t (call p n q) (k after) q (call-leads p n q on) (f after))
+  went k f Return r q after st none on l = record { linked = l; stops = tt }
+  went k f End r q after st none on l = record { linked = l; stops = tt }
   went k f (Stop alarm place) r q after st none on l = absurd (none on)
 
   -- a refused block is no step
-  stopped : (k : ℕ → Run → Ran) (r : Run) (alarm place after : ℕ) (st : Step) → Leads t r (goOn call k (Stop alarm place) r after st)
-  unfolding goOn Linked
-  stopped k r alarm place after st = refl
+  stopped : (k : ℕ → Run → Ran) (r : Run) (alarm place after : ℕ) (st : Step) → StopsOn (length (t .tape)) (Stopped alarm place)
+      → Leads t r (goOn call k (Stop alarm place) r after st)
+  unfolding goOn
+  stopped k r alarm place after st s = none-taken t (Stopped alarm place) r s
 
   -- ---- the block at a place
-  module _ (at : ℕ) (r : Run) where
-    abbrev own : ℕ
-    own = alarmIn (t .table) (t .settings) (r .state) (blockOn (t .tape) at) (t .room - r .count)
+  module _ (at : ℕ) (on : at < length (t .tape)) (r : Run) (k : ℕ → Run → Ran) (f : (p : ℕ) (q : Run) → Leads t q (k p q)) where
+    abbrev next : ℕ
+    next = after t program calls at r
 
-    abbrev asked : ℕ
-    asked = alarmBy (whatOf t program calls at r)
+    abbrev this : Step
+    this = step t program calls at r
 
-    none-asked : (a : ℕ) → cond (eqb a 0) own a ≡ 0 → a ≡ 0
-    none-asked zero h = refl
-    none-asked (suc a) h = absurd (omega (arith, ap (λ (b : Bool). cond b own (suc a)) (sym (ne-eqb (suc a) 0 (λ z. omega (arith, z)))) ∙ h))
+    by-did : {d : Did} → didAt t program calls at r ≡ d → Leads t r (goOn call k (d .what) (d .run) (d .after) this)
+        → Leads t r (goOn call k (didAt t program calls at r .what) (didAt t program calls at r .run) (didAt t program calls at r .after) this)
+    by-did e l = subst (λ (d : Did). Leads t r (goOn call k (d .what) (d .run) (d .after) this)) (sym e) l
 
-    free-asked : alarmAt t program calls at r ≡ 0 → asked ≡ 0
-    unfolding alarmAt
-    free-asked e = none-asked asked e
-
-    pub free-own : alarmAt t program calls at r ≡ 0 → own ≡ 0
-    unfolding alarmAt
-    free-own e = ap (λ (b : Bool). cond b own asked) (sym (eq-eqb asked 0 (none-asked asked e))) ∙ e
-
-    abbrev after : ℕ
-    after = textAt (t .tape) at .after
-
-    abbrev step : Step
-    step = record { place = at; before = r; records = recordsAt t program calls at r }
-
-    did-free : alarmAt t program calls at r ≡ 0 → didAt t program calls at r ≡ record { what = whatOf t program calls at r; run = runAfter t at r; after = after }
-    unfolding didAt
-    did-free e = rw (eq-eqb (alarmAt t program calls at r) 0 e) refl
-
-    did-alarm : (alarmAt t program calls at r ≡ 0 → ⊥) → didAt t program calls at r ≡ record { what = Stop (alarmAt t program calls at r) at; run = r; after = after }
-    unfolding didAt
-    did-alarm e = rw (ne-eqb (alarmAt t program calls at r) 0 e) refl
-
-    records-free : alarmAt t program calls at r ≡ 0 → recordsAt t program calls at r ≡ doneRecords (t .table) (t .settings) (r .state) (blockOn (t .tape) at)
-    unfolding recordsAt
-    records-free e = rw (eq-eqb (alarmAt t program calls at r) 0 e) refl
-
-    module _ (k : ℕ → Run → Ran) (f : (p : ℕ) (q : Run) → Leads t q (k p q)) where
-      by-did : {d : Did} → didAt t program calls at r ≡ d → Leads t r (goOn call k (d .what) (d .run) (d .after) step)
-          → Leads t r (goOn call k (didAt t program calls at r .what) (didAt t program calls at r .run) (didAt t program calls at r .after) step)
-      by-did e l = subst (λ (d : Did). Leads t r (goOn call k (d .what) (d .run) (d .after) step)) (sym e) l
-
-      by-alarm : (a : ℕ) → alarmAt t program calls at r ≡ a
-          → Leads t r (goOn call k (didAt t program calls at r .what) (didAt t program calls at r .run) (didAt t program calls at r .after) step)
-      by-alarm zero e =
-          by-did (did-free e)
-          (went k f (whatOf t program calls at r) r (runAfter t at r) after step
-          (λ h. omega (arith, h, free-asked e))
-          (what-on (t .tape) (t .first) (t .settings .lowest) program calls at (r .left) (blockOn (t .tape) at))
-          (one r (runAfter t at r) step (record { program = program; calls = calls; begun = refl; free = e; wrote = records-free e }) refl))
-      by-alarm (suc a) e = by-did (did-alarm (λ z. omega (arith, e, z))) (stopped k r (alarmAt t program calls at r) at after step)
+    by-alarm : (a : ℕ) → alarmAt t program calls at r ≡ a
+        → Leads t r (goOn call k (didAt t program calls at r .what) (didAt t program calls at r .run) (didAt t program calls at r .after) this)
+    by-alarm zero e =
+        by-did (did-free t program calls at r e)
+        (went k f (whatOf t program calls at r) r (runAfter t at r) next this
+        (λ h. omega (arith, h, free-asked t program calls at r e))
+        (what-on (t .tape) (t .first) (t .settings .lowest) program calls at (r .left) (blockOn (t .tape) at))
+        (one r (runAfter t at r) this (record { program = program; calls = calls; begun = refl; free = e; wrote = records-free t program calls at r e }) refl))
+    by-alarm (suc a) e =
+        by-did (did-alarm t program calls at r (λ z. omega (arith, e, z)))
+        (stopped k r (alarmAt t program calls at r) at next this (omega (arith, e), omega (arith, on)))
 
   -- ---- a step from a place on
   module _ (k : ℕ → Run → Ran) (f : (p : ℕ) (q : Run) → Leads t q (k p q)) where
-    by-found : (from : ℕ) (r : Run) (g : Found) → Leads t r (onward call k (takenBy t program calls from r g))
+    by-found : (from : ℕ) (r : Run) (g : Found) → FoundIn (length (t .tape)) g → Leads t r (onward call k (takenBy t program calls from r g))
     unfolding onward takenBy
-    by-found from r (At p) = by-alarm p r k f (alarmAt t program calls p r) refl
-    by-found from r Nowhere = stopped k r _ program from _
+    by-found from r (At p) on = by-alarm p on r k f (alarmAt t program calls p r) refl
+    by-found from r Nowhere on = stopped k r _ program from _ (omega arith, line)
 
     from-leads : (from : ℕ) (r : Run) → Leads t r (onward call k (takenFrom t program calls from r))
     unfolding takenFrom
-    from-leads from r = by-found from r (firstBlock (lines (t .tape) from))
+    from-leads from r = by-found from r (firstBlock (lines (t .tape) from)) (first-on (t .tape) from)
 
   pub blocks-lead : (f from : ℕ) (r : Run) → Leads t r (blocks call t program calls f from r)
-  unfolding blocks Linked
-  blocks-lead zero from r = refl
+  unfolding blocks
+  blocks-lead zero from r = none-taken t _ r (omega arith, line)
   blocks-lead (suc f) from r = from-leads (λ p s. blocks call t program calls f p s) (λ p s. blocks-lead f p s) from r
 
 -- ---- calls and repeats
 repeated-leads : (t : Task) (one : Run → Ran) → ((r : Run) → Leads t r (one r)) → (n : ℕ) (r : Run) → Leads t r (repeated one n r)
-unfolding repeated Linked
-repeated-leads t one h zero r = refl
+unfolding repeated
+repeated-leads t one h zero r = none-taken t Returned r tt
 repeated-leads t one h (suc n) r = leads-then t (one r) (λ s. repeated one n s) r (h r) (λ q. repeated-leads t one h n q)
 
-pub called-leads : (t : Task) (c p n : ℕ) (r : Run) → Leads t r (called t c p n r)
-unfolding called Linked
-called-leads t zero p n r = refl
-called-leads t (suc c) p n r =
+called-leads : (t : Task) (c p n : ℕ) (r : Run) → p ≤ length (t .tape) → Leads t r (called t c p n r)
+unfolding called
+called-leads t zero p n r line = none-taken t _ r (omega arith, line)
+called-leads t (suc c) p n r line =
     repeated-leads t (λ s. blocks (λ q m u. called t c q m u) t p c enough (lineAt (t .tape) p .after) s)
-    (λ s. blocks-lead t p c (λ q m u. called t c q m u) (λ q m u. called-leads t c q m u) enough (lineAt (t .tape) p .after) s) n r
+    (λ s. blocks-lead t p c line (λ q m u. called t c q m u) (λ q m u on. called-leads t c q m u on) enough (lineAt (t .tape) p .after) s) n r
 
--- THE STEPS OF A PROGRAM'S RUN lead from where it began to where it ended
-pub program-leads : (t : Task) (p c : ℕ) (r : Run) → Leads t r (programRun t p c r)
-program-leads t p c r = blocks-lead t p c (called t c) (λ q m u. called-leads t c q m u) enough (lineAt (t .tape) p .after) r
+-- THE STEPS OF A PROGRAM'S RUN lead from where it began to where it ended, and an alarm that stops it has its place on the tape
+pub program-leads : (t : Task) (p c : ℕ) (r : Run) → p < length (t .tape) → Leads t r (programRun t p c r)
+program-leads t p c r line = blocks-lead t p c (omega (arith, line)) (called t c) (λ q m u on. called-leads t c q m u on) enough (lineAt (t .tape) p .after) r

@@ -5,10 +5,10 @@
 use mathlib.Core.Path.{_≡_}
 use mathlib.Core.Bool.{true}
 use mathlib.Core.List.{List, [], _∷_, _++_}
-use Prim.Native.Nat.{ℕ, _+_}
+use Prim.Native.Nat.{ℕ, _+_, _<_, _≤_}
 use lib.IntN.{ℤ}
 use lib.ListN.{length, take, drop}
-use Rattle.moves.specs.Form.{headerSize, recordStart, headerBytes, listBytes, LawfulList}
+use Rattle.moves.specs.Form.{headerSize, recordLimit, recordStart, headerBytes, listBytes, LawfulList}
 use Rattle.moves.specs.Reading.{recordsIn, countIn, listIn}
 use Rattle.moves.specs.declared.record.Record.{Record}
 use Rattle.reading.specs.Reading.{readOf}
@@ -18,7 +18,7 @@ use Rattle.turning.specs.Turned.{Turned}
 use Rattle.machine.specs.Opens.{opensTurning, cycleIn}
 use Rattle.machine.specs.declared.run.Settings.{Settings}
 use Rattle.steps.specs.Steps.{Task, taskOf, Step, blockOn}
-use Rattle.interpreter.specs.Answers.{countOf, whole, answerOf, bufferOf}
+use Rattle.interpreter.specs.Answers.{placeOf, countOf, longestTape, whole, answerOf, bufferOf}
 use Rattle.interpreter.specs.Runs.{recordsOf}
 use Rattle.interpreter.specs.declared.interpret.Answer.{Answer}
 use Rattle.interpreter.specs.declared.interpret.Answer.the-variants.{Complete, Alarm}
@@ -88,10 +88,22 @@ pub record HoldsAfter (a : Answer) (b e : List ℕ) (rs : List Record) : Type 0 
   pub behind : drop (recordStart (countOf a)) e ≡ drop (recordStart (countOf a)) b
   pub size : length e ≡ length b
 
--- DEMAND 1, of every tape, table, settings and buffer: what the buffer holds after a list and after an alarm
-abbrev pub DemandOne : List ℕ → List ℤ → Settings → List ℕ → Type 0
-DemandOne tape table set b =
-    HoldsAfter (answerOf tape table set (length b)) b (bufferOf tape table set b) (recordsOf (whole tape table set (length b) .steps))
+-- an alarm has a number above 0: 0 says that a list is complete
+abbrev pub Named : Answer → Type 0
+Named (Complete count) = Unit {0}
+Named (Alarm alarm place count) = 0 < alarm
+
+-- what the numbers of an answer are, on a tape of so many bytes: the place lies on the tape and has 16 bits, and there are no more records than a list may have
+pub record Told (size : ℕ) (a : Answer) : Type 0 where
+  pub number : Named a
+  pub place : placeOf a ≤ size
+  pub near : placeOf a ≤ longestTape
+  pub count : countOf a ≤ recordLimit
+
+-- DEMAND 1, of every tape, table, settings and buffer: what the buffer holds after a list and after an alarm, and what the answer tells
+pub record DemandOne (tape : List ℕ) (table : List ℤ) (set : Settings) (b : List ℕ) : Type 0 where
+  pub holds : HoldsAfter (answerOf tape table set (length b)) b (bufferOf tape table set b) (recordsOf (whole tape table set (length b) .steps))
+  pub told : Told (length tape) (answerOf tape table set (length b))
 
 -- a complete list of so many records: it is read off the bytes, its header has its count, and no other list has these bytes
 pub record IsList (count : ℕ) (e : List ℕ) (rs : List Record) : Type 0 where

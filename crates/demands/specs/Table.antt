@@ -1,5 +1,5 @@
 -- 01, "Pieces that must come out so": P1 to P10 as a single table. Cases by tape go through all definitions, with the settings of `listmoves`; places on a tape count from 0.
-use mathlib.Core.Bool.{Bool, true, false, cond, _&&_}
+use mathlib.Core.Bool.{Bool, true, false, _&&_}
 use mathlib.Core.List.{List, [], _∷_, _++_}
 use Prim.Native.Nat.{ℕ}
 use Prim.Native.String.{String}
@@ -8,7 +8,7 @@ use lib.IntN.{ℤ, pos, negsuc}
 use lib.Signed.{leZ}
 use lib.ListN.{replicate}
 use Rattle.whole.specs.Division.{count, pieces}
-use Rattle.moves.specs.Kinds.{rapid, feed, miscellaneous, tool}
+use Rattle.moves.specs.Kinds.{rapid, feed, miscellaneous}
 use Rattle.moves.specs.declared.record.Record.{Record}
 use Rattle.tape.specs.Text.{bytes}
 use Rattle.tape.specs.Words.{nextWord}

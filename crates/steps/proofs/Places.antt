@@ -33,7 +33,7 @@ use Rattle.steps.specs.declared.ahead.What.{What}
 use Rattle.steps.specs.declared.ahead.What.the-variants.{On, Call, Jump, Return, End, Stop}
 
 -- ---- the lines of a tape stand on it
-abbrev AllIn : ℕ → List Text → Type 0
+abbrev pub AllIn : ℕ → List Text → Type 0
 AllIn n [] = Unit {0}
 AllIn n (t ∷ ts) = (t .place < n) × AllIn n ts
 
@@ -42,7 +42,7 @@ unfolding linesUp
 up-in zero s p = tt
 up-in (suc k) s p = cond-ind (AllIn (length s)) (ltb p (length s)) _ [] (λ t. (ltb-true p (length s) t, up-in k s (lineAt s p .after))) tt
 
-lines-in : (s : List ℕ) (p : ℕ) → AllIn (length s) (lines s p)
+pub lines-in : (s : List ℕ) (p : ℕ) → AllIn (length s) (lines s p)
 unfolding lines
 lines-in s p = up-in (length s) s p
 
