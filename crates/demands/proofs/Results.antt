@@ -61,7 +61,7 @@ read-on tape =
 module _ (P : Task → Result → Type 0) (tape : List ℕ) (table : List ℤ) (set : Settings) (bytes : ℕ)
     (none : (t : Task) (alarm place : ℕ) → 0 < alarm → place ≤ length tape → place ≤ longestTape → P t (refused alarm place))
     (some : headerSize ≤ bytes → length tape ≤ longestTape → Right table set → (first end p : ℕ) → let t = taskOf (take end tape) table set first bytes in
-        p < length (t .tape) → P t (resultOf (programRun t p mostCalls (startOf set)))) where
+    p < length (t .tape) → P t (resultOf (programRun t p mostCalls (startOf set)))) where
   main-is : headerSize ≤ bytes → length tape ≤ longestTape → Right table set → (first end : ℕ) → let t = taskOf (take end tape) table set first bytes in
       (f : Found) → FoundIn (length (t .tape)) f → P t (mainBy t f)
   unfolding mainBy

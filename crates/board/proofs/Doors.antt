@@ -1,0 +1,85 @@
+-- Laws of the door: which of its two ways an input takes, and that place and count of every answer have 16 bits.
+-- Assumes nothing.
+use mathlib.Core.Path.{_≡_, refl, sym, subst}
+use mathlib.Core.Bool.{Bool, true, false, not, _||_}
+use mathlib.Core.List.{List}
+use Prim.Native.Nat.{ℕ, _+_, _*_, _<_}
+use native.Mathlib.Omega.{arith}
+use lib.Dec.{eqb}
+use lib.IntN.{ℤ}
+use lib.ListN.{length}
+use borrow.Author.Tests.{eqb-true, eq-eqb, ne-eqb}
+use Rattle.alarms.specs.Numbers.{badSettings}
+use Rattle.machine.specs.declared.run.Settings.{Settings}
+use Rattle.interpreter.specs.Answers.{numberOf, placeOf, countOf, Result, refused, whole, answerOf, bufferOf, laidBy}
+use Rattle.interpreter.specs.declared.interpret.Answer.{Answer}
+use Rattle.interpreter.specs.declared.interpret.Answer.the-variants.{Alarm}
+use Rattle.interpreter.proofs.Whole.{none-begun}
+use Rattle.demands.proofs.Holding.{demand-one}
+use Rattle.board.specs.Door.{isBelow, notNine, settingsOf, atDoor, answerAt, bufferAt, Fits, Packed}
+
+-- ---- nine numbers
+first-false : (a b : Bool) → (a || b) ≡ false → a ≡ false
+first-false true b e = e
+first-false false b e = refl
+
+not-not : (a : Bool) → not a ≡ false → a ≡ true
+not-not true e = refl
+not-not false e = sym e
+
+pub nine : (numbers : List ℤ) → notNine numbers ≡ false → length numbers ≡ 9
+unfolding notNine
+nine numbers e = eqb-true (length numbers) 9 (not-not (eqb (length numbers) 9) (first-false (not (eqb (length numbers) 9)) _ e))
+
+pub other-length : (numbers : List ℤ) → (length numbers ≡ 9 → ⊥) → true ≡ notNine numbers
+unfolding notNine
+other-length numbers h = rw (ne-eqb (length numbers) 9 h) refl
+
+pub are-nine : (numbers : List ℤ) → length numbers ≡ 9 → {x y z : Bool} → x ≡ isBelow numbers 0 → y ≡ isBelow numbers 1 → z ≡ isBelow numbers 2 → ((x || y) || z) ≡ notNine numbers
+unfolding notNine
+are-nine numbers h x y z = rw (eq-eqb (length numbers) 9 h) (λ i. (x i || y i) || z i)
+
+-- ---- the numbers of an answer, as they stand in one
+pub packs : (a : Answer) (r : ℕ) → Fits a → numberOf a < 256 → r ≡ countOf a + 65_536 * (placeOf a + 65_536 * numberOf a) → Packed a r
+packs a r f n e = record {
+  count = omega (arith, f .count, e);
+  place = omega (arith, f .count, f .place, e);
+  alarm = omega (arith, f .count, f .place, e);
+  rest = omega (arith, f .count, f .place, n, e);
+}
+
+-- an answer by its kind: what is known of it, and what was made of it
+pub fits-by : {a b : Answer} → a ≡ b → Fits a → Fits b
+fits-by e f = subst Fits e f
+
+pub packed-by : {a b : Answer} {r : ℕ} → a ≡ b → Packed b r → Packed a r
+packed-by {r = r} e p = subst (λ (x : Answer). Packed x r) (sym e) p
+
+-- ---- an answer and a buffer, as the door gives them
+module _ (tape : List ℕ) (table numbers : List ℤ) (b : List ℕ) where
+  -- what is owed of the answer r and of the buffer e
+  abbrev pub Opened : ℕ → List ℕ → Type 0
+  Opened r e = Packed (answerAt tape table numbers (length b)) r × (e ≡ bufferAt tape table numbers b)
+
+  opened-by : {x : Result} → atDoor tape table numbers (length b) ≡ x → {r : ℕ} {e : List ℕ} → Packed (x .answer) r → e ≡ laidBy x b → Opened r e
+  opened-by h {r} {e} p l = subst (λ (y : Result). Packed (y .answer) r × (e ≡ laidBy y b)) (sym h) (p, l)
+
+  is-refused : notNine numbers ≡ true → atDoor tape table numbers (length b) ≡ refused badSettings 0
+  unfolding atDoor
+  is-refused h = rw h refl
+
+  pub refused-here : notNine numbers ≡ true → {r : ℕ} → Packed (Alarm badSettings 0 0) r → Opened r b
+  refused-here h p = opened-by (is-refused h) p (none-begun badSettings 0 b .1)
+
+  module _ (h : notNine numbers ≡ false) {set : Settings} (s : set ≡ settingsOf numbers) where
+    is-run : atDoor tape table numbers (length b) ≡ whole tape table set (length b)
+    unfolding atDoor
+    is-run = rw (h, s) refl
+
+    pub ran-here : {a : Answer} → a ≡ answerOf tape table set (length b) → {r : ℕ} {e : List ℕ} → Packed a r → e ≡ bufferOf tape table set b → Opened r e
+    ran-here k {r} p l = opened-by is-run (subst (λ (x : Answer). Packed x r) k p) l
+
+  pub answer-fits : (set : Settings) {a : Answer} → a ≡ answerOf tape table set (length b) → Fits a
+  answer-fits set {a} k =
+      let t = demand-one tape table set b .told in
+      subst Fits (sym k) (record { place = omega (arith, t .near); count = omega (arith, t .count) })
