@@ -1,5 +1,5 @@
-/* Reads a tape file, runs it through the interpreter's door and prints the list of moves, or the alarm, as `./listmoves` does: the same settings, the same text.
-   Build and comparison: c/compare. */
+/* Reads a tape, from a file or from standard input, runs it through the interpreter's door and prints the list of moves, or the alarm, as `./listmoves` does: the same settings, the same
+   text. c/compare builds it and compares the two. */
 #include <inttypes.h>
 #include <stdio.h>
 
@@ -38,14 +38,14 @@ static void print_list(unsigned count) {
 }
 
 int main(int argc, char **argv) {
-    FILE *in = stdin;
-    if (argc > 2 || (argc == 2 && (in = fopen(argv[1], "rb")) == NULL)) {
+    if (argc > 2) {
         fprintf(stderr, "usage: %s [TAPE]\n", argv[0]);
         return 2;
     }
-    size_t length = fread(tape, 1, sizeof tape, in);
-    if (ferror(in)) {
-        fprintf(stderr, "%s: the tape cannot be read\n", argv[0]);
+    FILE *in = argc == 2 ? fopen(argv[1], "rb") : stdin;
+    size_t length = in == NULL ? 0 : fread(tape, 1, sizeof tape, in);
+    if (in == NULL || ferror(in)) {
+        perror(argc == 2 ? argv[1] : "standard input");
         return 2;
     }
     uint64_t answer = tm02_interpret(tape, length, table, TM02_TABLE, settings, TM02_SETTINGS, list, sizeof list);
@@ -53,6 +53,10 @@ int main(int argc, char **argv) {
         printf("ALARM %u %u %u\n", tm02_alarm(answer), tm02_place(answer), tm02_count(answer));
     } else {
         print_list(tm02_count(answer));
+    }
+    if (fflush(stdout) != 0) {
+        perror("standard output");
+        return 2;
     }
     return 0;
 }

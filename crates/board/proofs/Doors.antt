@@ -1,4 +1,4 @@
--- Laws of the door: which of its two ways an input takes, and that place and count of every answer have 16 bits.
+-- Laws of the door: which of its two ways an input takes, demand 1 of every input, and that place and count of every answer have 16 bits.
 -- Assumes nothing.
 use mathlib.Core.Path.{_≡_, refl, sym, subst}
 use mathlib.Core.Bool.{Bool, true, false, not, _||_}
@@ -15,8 +15,9 @@ use Rattle.interpreter.specs.Answers.{numberOf, placeOf, countOf, Result, refus
 use Rattle.interpreter.specs.declared.interpret.Answer.{Answer}
 use Rattle.interpreter.specs.declared.interpret.Answer.the-variants.{Alarm}
 use Rattle.interpreter.proofs.Whole.{none-begun}
-use Rattle.demands.proofs.Holding.{demand-one}
-use Rattle.board.specs.Door.{isBelow, notNine, settingsOf, atDoor, answerAt, bufferAt, Fits, Packed}
+use Rattle.demands.specs.Demands.{Owed}
+use Rattle.demands.proofs.Holding.{none-owed, demand-one}
+use Rattle.board.specs.Door.{isBelow, unfit, settingsOf, atDoor, answerAt, bufferAt, Packed, DemandOneAtDoor, Fits}
 
 -- ---- nine numbers
 first-false : (a b : Bool) → (a || b) ≡ false → a ≡ false
@@ -27,16 +28,16 @@ not-not : (a : Bool) → not a ≡ false → a ≡ true
 not-not true e = refl
 not-not false e = sym e
 
-pub nine : (numbers : List ℤ) → notNine numbers ≡ false → length numbers ≡ 9
-unfolding notNine
+pub nine : (numbers : List ℤ) → unfit numbers ≡ false → length numbers ≡ 9
+unfolding unfit
 nine numbers e = eqb-true (length numbers) 9 (not-not (eqb (length numbers) 9) (first-false (not (eqb (length numbers) 9)) _ e))
 
-pub other-length : (numbers : List ℤ) → (length numbers ≡ 9 → ⊥) → true ≡ notNine numbers
-unfolding notNine
+pub other-length : (numbers : List ℤ) → (length numbers ≡ 9 → ⊥) → true ≡ unfit numbers
+unfolding unfit
 other-length numbers h = rw (ne-eqb (length numbers) 9 h) refl
 
-pub are-nine : (numbers : List ℤ) → length numbers ≡ 9 → {x y z : Bool} → x ≡ isBelow numbers 0 → y ≡ isBelow numbers 1 → z ≡ isBelow numbers 2 → ((x || y) || z) ≡ notNine numbers
-unfolding notNine
+pub are-nine : (numbers : List ℤ) → length numbers ≡ 9 → {x y z : Bool} → x ≡ isBelow numbers 0 → y ≡ isBelow numbers 1 → z ≡ isBelow numbers 2 → ((x || y) || z) ≡ unfit numbers
+unfolding unfit
 are-nine numbers h x y z = rw (eq-eqb (length numbers) 9 h) (λ i. (x i || y i) || z i)
 
 -- ---- the numbers of an answer, as they stand in one
@@ -64,20 +65,27 @@ module _ (tape : List ℕ) (table numbers : List ℤ) (b : List ℕ) where
   opened-by : {x : Result} → atDoor tape table numbers (length b) ≡ x → {r : ℕ} {e : List ℕ} → Packed (x .answer) r → e ≡ laidBy x b → Opened r e
   opened-by h {r} {e} p l = subst (λ (y : Result). Packed (y .answer) r × (e ≡ laidBy y b)) (sym h) (p, l)
 
-  is-refused : notNine numbers ≡ true → atDoor tape table numbers (length b) ≡ refused badSettings 0
+  is-refused : unfit numbers ≡ true → atDoor tape table numbers (length b) ≡ refused badSettings 0
   unfolding atDoor
   is-refused h = rw h refl
 
-  pub refused-here : notNine numbers ≡ true → {r : ℕ} → Packed (Alarm badSettings 0 0) r → Opened r b
+  pub refused-here : unfit numbers ≡ true → {r : ℕ} → Packed (Alarm badSettings 0 0) r → Opened r b
   refused-here h p = opened-by (is-refused h) p (none-begun badSettings 0 b .1)
 
-  module _ (h : notNine numbers ≡ false) {set : Settings} (s : set ≡ settingsOf numbers) where
+  module _ (h : unfit numbers ≡ false) {set : Settings} (s : set ≡ settingsOf numbers) where
     is-run : atDoor tape table numbers (length b) ≡ whole tape table set (length b)
     unfolding atDoor
     is-run = rw (h, s) refl
 
     pub ran-here : {a : Answer} → a ≡ answerOf tape table set (length b) → {r : ℕ} {e : List ℕ} → Packed a r → e ≡ bufferOf tape table set b → Opened r e
     ran-here k {r} p l = opened-by is-run (subst (λ (x : Answer). Packed x r) k p) l
+
+  owed-by : (set : Settings) → set ≡ settingsOf numbers → (bad : Bool) → unfit numbers ≡ bad → DemandOneAtDoor tape table numbers b
+  owed-by set s true h = subst (λ (x : Result). Owed (length tape) x b) (sym (is-refused h)) (none-owed (length tape) b badSettings 0 (omega arith, omega arith) (omega arith) (omega arith))
+  owed-by set s false h = subst (λ (x : Result). Owed (length tape) x b) (sym (is-run h s)) (demand-one tape table set b)
+
+  pub demand-one-at-door : DemandOneAtDoor tape table numbers b
+  demand-one-at-door = owed-by (settingsOf numbers) refl (unfit numbers) refl
 
   pub answer-fits : (set : Settings) {a : Answer} → a ≡ answerOf tape table set (length b) → Fits a
   answer-fits set {a} k =

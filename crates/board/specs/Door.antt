@@ -1,5 +1,6 @@
 -- THE DOOR. Settings: main, lowest subroutine, retract, start X, start Z, X lowest, X highest, Z lowest, Z highest. "settings that are not nine numbers, or a number out of its range, are
--- alarm 1, whatever the rest is". Which ranges there are is said once, in interpreter/specs/Wrong.antt; here is only what its settings cannot hold: a number below 0 for main, lowest or retract.
+-- alarm 1, whatever the rest is". Which ranges there are is said once, in interpreter/specs/Wrong.antt; here is only what its settings cannot hold: a number below 0 for main, lowest subroutine
+-- or retract.
 use mathlib.Core.Path.{_≡_}
 use mathlib.Core.Bool.{Bool, cond, not, _||_}
 use mathlib.Core.List.{List}
@@ -12,6 +13,7 @@ use Rattle.alarms.specs.Numbers.{badSettings}
 use Rattle.machine.specs.declared.run.Settings.{Settings}
 use Rattle.interpreter.specs.Answers.{numberOf, placeOf, countOf, Result, refused, whole, laidBy}
 use Rattle.interpreter.specs.declared.interpret.Answer.{Answer}
+use Rattle.demands.specs.Demands.{Owed}
 
 abbrev pub at : List ℤ → ℕ → ℤ
 at numbers k = getD numbers k (pos 0)
@@ -19,8 +21,8 @@ at numbers k = getD numbers k (pos 0)
 abbrev pub isBelow : List ℤ → ℕ → Bool
 isBelow numbers k = ltZ (at numbers k) (pos 0)
 
-unfoldable pub notNine : List ℤ → Bool
-notNine numbers = not (eqb (length numbers) 9) || ((isBelow numbers 0 || isBelow numbers 1) || isBelow numbers 2)
+unfoldable pub unfit : List ℤ → Bool
+unfit numbers = not (eqb (length numbers) 9) || ((isBelow numbers 0 || isBelow numbers 1) || isBelow numbers 2)
 
 unfoldable pub settingsOf : List ℤ → Settings
 settingsOf numbers = record {
@@ -34,7 +36,7 @@ settingsOf numbers = record {
 
 -- tape, table, the settings as they came, and the length of the buffer
 unfoldable pub atDoor : List ℕ → List ℤ → List ℤ → ℕ → Result
-atDoor tape table numbers bytes = cond (notNine numbers) (refused badSettings 0) (whole tape table (settingsOf numbers) bytes)
+atDoor tape table numbers bytes = cond (unfit numbers) (refused badSettings 0) (whole tape table (settingsOf numbers) bytes)
 
 abbrev pub answerAt : List ℕ → List ℤ → List ℤ → ℕ → Answer
 answerAt tape table numbers bytes = atDoor tape table numbers bytes .answer
@@ -48,6 +50,10 @@ pub record Packed (a : Answer) (r : ℕ) : Type 0 where
   pub place : r / 65_536 % 65_536 ≡ placeOf a
   pub alarm : r / 4_294_967_296 ≡ numberOf a
   pub rest : r < 1_099_511_627_776
+
+-- DEMAND 1 at the door, of every tape, table, row of settings and buffer
+abbrev pub DemandOneAtDoor : List ℕ → List ℤ → List ℤ → List ℕ → Type 0
+DemandOneAtDoor tape table numbers b = Owed (length tape) (atDoor tape table numbers (length b)) b
 
 -- ---- what is known where it is not given
 -- an answer whose place and count have 16 bits

@@ -1,5 +1,5 @@
 // THE BOARD'S DOOR: the one function that the control's firmware, which is written in C, calls. include/tm02.h declares it for C.
-// Settings come as nine numbers and the answer goes as one. No caller has to check anything first: settings that are not nine numbers, or of which one is out of range, are alarm 1.
+// Settings come as nine numbers and the answer goes as one. No caller has to check a number first: settings that are not nine numbers, or of which one is out of range, are alarm 1.
 use cycles::limits::Limits;
 use cycles::limits::Span;
 use interpreter::interpret::Answer;
@@ -7,11 +7,11 @@ use machine::run::Settings;
 ghost use mathlib.Core.Path.{_≡_};
 ghost use Prim.Native.Nat.{_+_, _*_, _<_};
 ghost use lib.ListN.{length};
-ghost use Rattle.board.specs.Door.{notNine, settingsOf, answerAt, bufferAt, Fits, Packed};
+ghost use Rattle.board.specs.Door.{unfit, settingsOf, answerAt, bufferAt, Fits, Packed};
 
-// Whether there are not nine numbers, or one of the three that count something is below 0. What else alarm 1 asks of them the interpreter judges.
-fn not_nine(numbers: &[i32]) -> bool
-    ensures { λ r. ⌜ r ≡ notNine (now (numbers .entry)) ⌝ }
+// Whether they are not nine numbers, or main, lowest subroutine or retract is below 0. What else alarm 1 asks of them the interpreter judges.
+fn unfit(numbers: &[i32]) -> bool
+    ensures { λ r. ⌜ r ≡ unfit (now (numbers .entry)) ⌝ }
 {
     if numbers.len() != 9 {
         return true;
@@ -41,7 +41,7 @@ fn settings_of(numbers: &[i32]) -> Settings
     }
 }
 
-// An alarm's number, place and count as one number.
+// Alarm, place and count as one number.
 fn packed(alarm: u8, place: usize, count: usize) -> u64
     requires { ⌜ (place < 65_536) × (count < 65_536) ⌝ }
     ensures { λ r. ⌜ r ≡ count + 65_536 * (place + 65_536 * alarm) ⌝ }
@@ -59,7 +59,7 @@ fn packed_answer(answer: Answer) -> u64
     }
 }
 
-// Bits 0 to 15 of the answer are the records written, bits 16 to 31 the place on the tape, bits 32 to 39 the alarm, 0 where the list is complete.
+// Bits 0 to 15 of the answer are the records written, bits 16 to 31 the place on the tape, bits 32 to 39 the alarm, 0 where the list is complete. The bits above are 0.
 #[no_mangle]
 pub extern "C" fn tm02_interpret(
     tape: &[u8],
@@ -70,7 +70,7 @@ pub extern "C" fn tm02_interpret(
     ensures result { λ r. ⌜ Packed (answerAt (now (tape .entry)) (now (table .entry)) (now (settings .entry)) (length (now (buf .entry)))) r ⌝ }
     ensures records { λ _. ⌜ now (buf .exit) ≡ bufferAt (now (tape .entry)) (now (table .entry)) (now (settings .entry)) (now (buf .entry)) ⌝ }
 {
-    if not_nine(settings) {
+    if unfit(settings) {
         return packed_answer(Answer::Alarm(alarms::BAD_SETTINGS, 0, 0));
     }
     let answer = interpreter::interpret::interpret(tape, table, settings_of(settings), buf);

@@ -1,5 +1,5 @@
 // What a case is run with: the numbers of the table and the settings. They stand in one array, the table's 208 first and then the settings, as 01's
-// `listmoves` has them until a line names another: `=retract 300`, `=offset 3 -1500` for number 3 of the table, `=bytes 24` for the buffer's size, `=numbers 207` for a table cut short.
+// `listmoves` has them until a line names another: `=retract 300`, `=offset 3 -1500` for number 3 of the table, `=bytes 24` for the buffer's size, `=numbers 207` for a table cut short; the first two letters of a word tell it.
 use tape::number::Kind;
 use tape::number::Number;
 ghost use mathlib.Core.Path.{_≡_};
@@ -83,49 +83,29 @@ pub fn bytes_of(given: &[i32; ALL]) -> usize
     at_most(whole::signed::magnitude(given[BYTES]), 65_536)
 }
 
-// The place of the number that a word names.
-fn place_of(word: &[u8]) -> usize {
-    if crate::text::same(word, b"offset") {
-        return OFFSET;
+// The place of a number of an axis by the second letter of its word: its start, its lowest limit or its highest.
+fn axis_place(second: u8, start: usize, lowest: usize, highest: usize) -> usize {
+    match second {
+        b' ' => start,
+        b'l' => lowest,
+        b'h' => highest,
+        _ => ALL,
     }
-    if crate::text::same(word, b"main") {
-        return MAIN;
-    }
-    if crate::text::same(word, b"lowest") {
-        return LOWEST;
-    }
-    if crate::text::same(word, b"retract") {
-        return RETRACT;
-    }
-    if crate::text::same(word, b"numbers") {
-        return NUMBERS;
-    }
-    if crate::text::same(word, b"bytes") {
-        return BYTES;
-    }
-    position_of(word)
 }
 
-fn position_of(word: &[u8]) -> usize {
-    if crate::text::same(word, b"x") {
-        return X;
+// The place of the number that a word names, by its first two letters.
+fn place_of(first: u8, second: u8) -> usize {
+    match first {
+        b'm' => MAIN,
+        b'l' => LOWEST,
+        b'r' => RETRACT,
+        b'x' => axis_place(second, X, X_LOW, X_HIGH),
+        b'z' => axis_place(second, Z, Z_LOW, Z_HIGH),
+        b'n' => NUMBERS,
+        b'b' => BYTES,
+        b'o' => OFFSET,
+        _ => ALL,
     }
-    if crate::text::same(word, b"z") {
-        return Z;
-    }
-    if crate::text::same(word, b"xlow") {
-        return X_LOW;
-    }
-    if crate::text::same(word, b"xhigh") {
-        return X_HIGH;
-    }
-    if crate::text::same(word, b"zlow") {
-        return Z_LOW;
-    }
-    if crate::text::same(word, b"zhigh") {
-        return Z_HIGH;
-    }
-    ALL
 }
 
 // The place of a number of the table, which counts from 1.
@@ -170,14 +150,14 @@ fn set_offset(given: &mut [i32; ALL], line: &[u8]) -> bool {
 
 // Reads a line behind its `=`, and answers whether it names a number.
 fn set_line(given: &mut [i32; ALL], line: &[u8]) -> bool {
-    if line.len() == 0 {
+    if line.len() < 3 {
         return false;
     }
     let gap = crate::text::find(line, 1, b' ');
     if gap >= line.len() {
         return false;
     }
-    let place = place_of(&line[1..gap]);
+    let place = place_of(line[1], line[2]);
     let from = gap + 1;
     if place == OFFSET {
         return set_offset(given, &line[from..]);

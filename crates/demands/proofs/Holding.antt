@@ -9,10 +9,10 @@ use lib.ListN.{length, take, drop, length-append, length-take, length-drop}
 use lib.Seq.{take-at, drop-at}
 use Rattle.whole.specs.Bytes.{laid}
 use Rattle.whole.proofs.Laying.{laid-nil}
-use Rattle.moves.specs.Form.{headerSize, recordStart, recordLimit, roomOf, headerBytes, rowBytes, listBytes, AllFitting, LawfulList}
+use Rattle.moves.specs.Form.{headerSize, recordSize, recordStart, recordLimit, roomOf, headerBytes, rowBytes, listBytes, AllFitting, LawfulList}
 use Rattle.moves.specs.Reading.{recordsIn, countIn, listIn, rowIn}
 use Rattle.moves.specs.declared.record.Record.{Record}
-use Rattle.moves.proofs.OneReading.{length-row, read-after, list-read, one-reading}
+use Rattle.moves.proofs.OneReading.{length-row, length-list, read-after, list-read, one-reading}
 use Rattle.state.specs.Target.{Table, Sound}
 use Rattle.state.proofs.Ranges.{start-sound}
 use Rattle.machine.specs.Known.{InRange}
@@ -27,7 +27,7 @@ use Rattle.interpreter.specs.declared.interpret.Answer.{Answer}
 use Rattle.interpreter.specs.declared.interpret.Answer.the-variants.{Complete, Alarm}
 use Rattle.interpreter.specs.declared.run.How.{How}
 use Rattle.interpreter.specs.declared.run.How.the-variants.{Returned, Ended, Stopped}
-use Rattle.demands.specs.Demands.{Front, HoldsAfter, Told, IsList, DemandOne, DemandTwo}
+use Rattle.demands.specs.Demands.{Front, IsAlarm, HoldsAfter, Told, Owed, IsList, DemandOne, DemandTwo}
 use Rattle.demands.specs.Steps.{Linked}
 use Rattle.demands.proofs.Buffers.{AllFit, chain-fits, Form, form}
 use Rattle.demands.proofs.Cycles.{counted}
@@ -65,6 +65,10 @@ module _ (a : Answer) (b e : List ℕ) (rs : List Record) (f : Form a b e rs) (f
   holds c room = record {
     counted = c;
     records = ap (recordsIn e 0) c ∙ reads;
+    written = ap (λ (n : ℕ). take (recordSize * n) (drop headerSize e)) c
+        ∙ ap (λ (x : List ℕ). take (recordSize * length rs) (drop headerSize x)) (f .is)
+        ∙ ap (take (recordSize * length rs)) (drop-at (f .before) (rowBytes rs ++ f .behind) headerSize (f .size))
+        ∙ take-at (rowBytes rs) (f .behind) (recordSize * length rs) (length-row rs);
     front = f .front;
     behind = ap (λ (n : ℕ). drop (recordStart n) e) c
         ∙ ap (drop (recordStart (length rs))) (f .is ∙ sym (append-assoc (f .before) (rowBytes rs) (f .behind)))
@@ -80,9 +84,8 @@ module _ (a : Answer) (b e : List ℕ) (rs : List Record) (f : Form a b e rs) (f
 
 -- ---- of a run
 record Shown (size : ℕ) (b : List ℕ) (x : Result) : Type 0 where
-  one : HoldsAfter (x .answer) b (laidBy x b) (recordsOf (x .steps))
+  one : Owed size x b
   two : (count : ℕ) → x .answer ≡ Complete count → IsList count (laidBy x b) (recordsOf (x .steps))
-  told : Told size (x .answer)
 
 no-list : (alarm place n count : ℕ) → Alarm alarm place n ≡ Complete count → ⊥
 no-list alarm place n count e = subst alarmed e tt
@@ -92,14 +95,16 @@ no-list alarm place n count e = subst alarmed e tt
     alarmed (Complete m) = ⊥
 
 -- an alarm before any block is begun
-none-shown : (size : ℕ) (b : List ℕ) (alarm place : ℕ) → 0 < alarm → place ≤ size → place ≤ longestTape → Shown size b (refused alarm place)
+pub none-owed : (size : ℕ) (b : List ℕ) (alarm place : ℕ) → IsAlarm alarm → place ≤ size - 1 → place ≤ longestTape → Owed size (refused alarm place) b
 unfolding laidBy recordsOf rowBytes rowIn
-none-shown size b alarm place some on near =
+none-owed size b alarm place some on near =
     let same : laid b (recordStart 0) [] ≡ b = laid-nil b (recordStart 0) in record {
-      one = record { counted = refl; records = refl; front = ap (take headerSize) same; behind = ap (drop (recordStart 0)) same; size = ap length same };
-      two = λ count e. absurd (no-list alarm place 0 count e);
+      holds = record { counted = refl; records = refl; written = refl; front = ap (take headerSize) same; behind = ap (drop (recordStart 0)) same; size = ap length same };
       told = record { number = some; place = on; near = near; count = omega arith };
     }
+
+none-shown : (size : ℕ) (b : List ℕ) (alarm place : ℕ) → IsAlarm alarm → place ≤ size - 1 → place ≤ longestTape → Shown size b (refused alarm place)
+none-shown size b alarm place some on near = record { one = none-owed size b alarm place some on near; two = λ count e. absurd (no-list alarm place 0 count e) }
 
 -- the numbers of an answer that a run comes to
 told-by : (h : How) (n cut size : ℕ) → cut ≤ size → size ≤ longestTape → StopsOn cut h → n ≤ recordLimit → Told size (answerBy h n)
@@ -107,7 +112,7 @@ unfolding answerBy
 told-by Ended n cut size short near on few = record { number = tt; place = omega arith; near = omega arith; count = few }
 told-by (Stopped alarm place) n cut size short near on few =
     record { number = on .0; place = omega (arith, short, on .1); near = omega (arith, short, near, on .1); count = few }
-told-by Returned n cut size short near on few = record { number = omega arith; place = omega arith; near = omega arith; count = few }
+told-by Returned n cut size short near on few = record { number = (omega arith, omega arith); place = omega arith; near = omega arith; count = few }
 
 -- the count of a complete list
 complete-count : {a : Answer} {count : ℕ} → a ≡ Complete count → countOf a ≡ count
@@ -130,6 +135,7 @@ listed a b e rs f lawful count k c =
     ∙ ap (λ (x : List ℕ). x ++ (rowBytes rs ++ f .behind)) (before ∙ ap headerBytes c)
     ∙ sym (append-assoc (headerBytes (length rs)) (rowBytes rs) (f .behind)) in record {
       lawful = lawful;
+      written = ap (λ (n : ℕ). take (recordStart n) e) c ∙ ap (take (recordStart (length rs))) is ∙ take-at (listBytes rs) (f .behind) (recordStart (length rs)) (length-list rs);
       reads = ap listIn is ∙ list-read rs (f .behind) lawful;
       header = ap countIn is ∙ list-count rs (f .behind) lawful ∙ sym c;
       counted = c;
@@ -155,9 +161,11 @@ run-shown size b header t short near room known range sound p on =
     let few : n ≤ t .room = chain-room t (x .steps) r (x .outcome .run) (omega arith) l in
     let inside : recordStart (length rs) ≤ length b = omega (arith, many, room-fits (length b) n header (omega (arith, few, room))) in
     let lawful : LawfulList rs = record { few = omega (arith, many, few, room, room-few (length b)); each = fits } in record {
-      one = holds a b (headed a e) rs f fits (count-by (x .outcome .how) n ∙ many) inside;
+      one = record {
+        holds = holds a b (headed a e) rs f fits (count-by (x .outcome .how) n ∙ many) inside;
+        told = told-by (x .outcome .how) n (length (t .tape)) size short near (leads .stops) (omega (arith, few, room, room-few (length b)));
+      };
       two = λ count k. listed a b (headed a e) rs f lawful count k (sym (complete-count k) ∙ count-by (x .outcome .how) n ∙ many);
-      told = told-by (x .outcome .how) n (length (t .tape)) size short near (leads .stops) (omega (arith, few, room, room-few (length b)));
     }
 
 -- ---- of every input
@@ -173,7 +181,7 @@ module _ (tape : List ℕ) (table : List ℤ) (set : Settings) (b : List ℕ) wh
       (start-sound (set .x) (set .z) (k .starts .x) (k .starts .z)) p on)
 
   pub demand-one : DemandOne tape table set b
-  demand-one = record { holds = shown .one; told = shown .told }
+  demand-one = shown .one
 
   pub demand-two : DemandTwo tape table set b
   demand-two = shown .two

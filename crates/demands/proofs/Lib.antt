@@ -1,5 +1,6 @@
 -- The proofs of this crate.
 pub mod Table
+pub mod Named
 pub mod Linked
 pub mod Results
 pub mod Cycles

@@ -3,7 +3,7 @@
 use mathlib.Core.Path.{_≡_, refl, sym, ap, _∙_, subst}
 use mathlib.Core.Bool.{Bool, cond}
 use mathlib.Core.List.{List, [], _∷_, _++_}
-use Prim.Native.Nat.{ℕ, zero, suc, _-_, _<_, _≤_}
+use Prim.Native.Nat.{ℕ, zero, suc, _-_, _<_}
 use native.Mathlib.Omega.{arith}
 use lib.Dec.{eqb}
 use lib.ListN.{length}
@@ -23,7 +23,9 @@ use Rattle.steps.proofs.Stepping.{what-on}
 use Rattle.interpreter.specs.Runs.{Ran, ran, pre, goBack, andThen, goOn, onward, blocks, enough, repeated, called, programRun}
 use Rattle.interpreter.specs.declared.run.How.{How}
 use Rattle.interpreter.specs.declared.run.How.the-variants.{Returned, Ended, Stopped}
+use Rattle.demands.specs.Demands.{IsAlarm}
 use Rattle.demands.specs.Steps.{Done, Linked}
+use Rattle.demands.proofs.Named.{block-named}
 
 -- ---- the block at a place
 module _ (t : Task) (program calls at : ℕ) (r : Run) where
@@ -69,9 +71,9 @@ unfolding Linked
 linked-append t [] w r q s h k = subst (λ (x : Run). Linked t x w s) (sym h) k
 linked-append t (st ∷ v) w r q s h k = (h .0, linked-append t v w (runAfter t (st .place) r) q s (h .1) k)
 
--- an alarm that stops a run has a number above 0 and a place on the tape
+-- an alarm that stops a run is one of 01's and has its place on the tape
 abbrev pub StopsOn : ℕ → How → Type 0
-StopsOn n (Stopped alarm place) = (0 < alarm) × (place ≤ n)
+StopsOn n (Stopped alarm place) = IsAlarm alarm × (place < n)
 StopsOn n Returned = Unit {0}
 StopsOn n Ended = Unit {0}
 
@@ -99,8 +101,8 @@ leads-then : (t : Task) (x : Ran) (k : Run → Ran) (r : Run) → Leads t r x �
 unfolding andThen
 leads-then t x k r p f = leads-back t (x .outcome .how) x k r p f
 
-module _ (t : Task) (program calls : ℕ) (line : program ≤ length (t .tape)) (call : ℕ → ℕ → Run → Ran)
-    (call-leads : (p n : ℕ) (r : Run) → p ≤ length (t .tape) → Leads t r (call p n r)) where
+module _ (t : Task) (program calls : ℕ) (line : program < length (t .tape)) (call : ℕ → ℕ → Run → Ran)
+    (call-leads : (p n : ℕ) (r : Run) → p < length (t .tape) → Leads t r (call p n r)) where
   -- ---- what is asked of the runner after a step that was taken
   one : (r q : Run) (st : Step) → Done t r st → runAfter t (st .place) r ≡ q → Linked t r (st ∷ []) q
   unfolding Linked
@@ -115,7 +117,7 @@ module _ (t : Task) (program calls : ℕ) (line : program ≤ length (t .tape)) 
       leads-pre t (st ∷ []) (andThen (call p n q) (k after)) r q l (leads-then t (call p n q) (k after) q (call-leads p n q on) (f after))
   went k f Return r q after st none on l = record { linked = l; stops = tt }
   went k f End r q after st none on l = record { linked = l; stops = tt }
-  went k f (Stop alarm place) r q after st none on l = absurd (none on)
+  went k f (Stop alarm place) r q after st none on l = absurd (none (on .0))
 
   -- a refused block is no step
   stopped : (k : ℕ → Run → Ran) (r : Run) (alarm place after : ℕ) (st : Step) → StopsOn (length (t .tape)) (Stopped alarm place)
@@ -145,14 +147,14 @@ module _ (t : Task) (program calls : ℕ) (line : program ≤ length (t .tape)) 
         (one r (runAfter t at r) this (record { program = program; calls = calls; begun = refl; free = e; wrote = records-free t program calls at r e }) refl))
     by-alarm (suc a) e =
         by-did (did-alarm t program calls at r (λ z. omega (arith, e, z)))
-        (stopped k r (alarmAt t program calls at r) at next this (omega (arith, e), omega (arith, on)))
+        (stopped k r (alarmAt t program calls at r) at next this ((omega (arith, e), block-named t program calls at r), on))
 
   -- ---- a step from a place on
   module _ (k : ℕ → Run → Ran) (f : (p : ℕ) (q : Run) → Leads t q (k p q)) where
     by-found : (from : ℕ) (r : Run) (g : Found) → FoundIn (length (t .tape)) g → Leads t r (onward call k (takenBy t program calls from r g))
     unfolding onward takenBy
     by-found from r (At p) on = by-alarm p on r k f (alarmAt t program calls p r) refl
-    by-found from r Nowhere on = stopped k r _ program from _ (omega arith, line)
+    by-found from r Nowhere on = stopped k r _ program from _ ((omega arith, omega arith), line)
 
     from-leads : (from : ℕ) (r : Run) → Leads t r (onward call k (takenFrom t program calls from r))
     unfolding takenFrom
@@ -160,7 +162,7 @@ module _ (t : Task) (program calls : ℕ) (line : program ≤ length (t .tape)) 
 
   pub blocks-lead : (f from : ℕ) (r : Run) → Leads t r (blocks call t program calls f from r)
   unfolding blocks
-  blocks-lead zero from r = none-taken t _ r (omega arith, line)
+  blocks-lead zero from r = none-taken t _ r ((omega arith, omega arith), line)
   blocks-lead (suc f) from r = from-leads (λ p s. blocks call t program calls f p s) (λ p s. blocks-lead f p s) from r
 
 -- ---- calls and repeats
@@ -169,13 +171,13 @@ unfolding repeated
 repeated-leads t one h zero r = none-taken t Returned r tt
 repeated-leads t one h (suc n) r = leads-then t (one r) (λ s. repeated one n s) r (h r) (λ q. repeated-leads t one h n q)
 
-called-leads : (t : Task) (c p n : ℕ) (r : Run) → p ≤ length (t .tape) → Leads t r (called t c p n r)
+called-leads : (t : Task) (c p n : ℕ) (r : Run) → p < length (t .tape) → Leads t r (called t c p n r)
 unfolding called
-called-leads t zero p n r line = none-taken t _ r (omega arith, line)
+called-leads t zero p n r line = none-taken t _ r ((omega arith, omega arith), line)
 called-leads t (suc c) p n r line =
     repeated-leads t (λ s. blocks (λ q m u. called t c q m u) t p c enough (lineAt (t .tape) p .after) s)
     (λ s. blocks-lead t p c line (λ q m u. called t c q m u) (λ q m u on. called-leads t c q m u on) enough (lineAt (t .tape) p .after) s) n r
 
 -- THE STEPS OF A PROGRAM'S RUN lead from where it began to where it ended, and an alarm that stops it has its place on the tape
 pub program-leads : (t : Task) (p c : ℕ) (r : Run) → p < length (t .tape) → Leads t r (programRun t p c r)
-program-leads t p c r line = blocks-lead t p c (omega (arith, line)) (called t c) (λ q m u on. called-leads t c q m u on) enough (lineAt (t .tape) p .after) r
+program-leads t p c r line = blocks-lead t p c line (called t c) (λ q m u on. called-leads t c q m u on) enough (lineAt (t .tape) p .after) r

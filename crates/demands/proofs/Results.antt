@@ -3,7 +3,7 @@
 use mathlib.Core.Path.{_≡_, refl}
 use mathlib.Core.Bool.{Bool, true, false, cond}
 use mathlib.Core.List.{List, [], _∷_}
-use Prim.Native.Nat.{ℕ, zero, suc, _<_, _≤_}
+use Prim.Native.Nat.{ℕ, zero, suc, _-_, _<_, _≤_}
 use native.Mathlib.Omega.{arith}
 use lib.Dec.{ltb, eqb}
 use lib.IntN.{ℤ}
@@ -26,7 +26,8 @@ use Rattle.interpreter.specs.Answers.{Result, refused, resultOf, startOf, mainB
 use Rattle.interpreter.specs.Runs.{programRun}
 use Rattle.interpreter.specs.Wrong.{settingsWrong, Right}
 use Rattle.interpreter.proofs.Right.{right}
-use Rattle.demands.specs.Demands.{readTask, task}
+use Rattle.demands.specs.Demands.{IsAlarm, readTask, task}
+use Rattle.demands.proofs.Named.{line-named}
 
 by-test : {A : Type 0} (P : A → Type 0) (c : Bool) (x y : A) → P x → (c ≡ false → P y) → P (cond c x y)
 by-test P true x y h k = h
@@ -36,10 +37,10 @@ above-none : (n : ℕ) → (n ≡ 0 → ⊥) → 0 < n
 above-none zero h = absurd (h refl)
 above-none (suc n) h = omega arith
 
--- ---- an alarm of reading has a number above 0 and the place of a line
+-- ---- an alarm of reading is one of 01's and has the place of a line, or of no byte on an empty tape
 abbrev AlarmOn : ℕ → Read → Type 0
 AlarmOn n (read.Whole first end) = Unit {0}
-AlarmOn n (read.Alarm alarm place) = (0 < alarm) × (place ≤ n)
+AlarmOn n (read.Alarm alarm place) = IsAlarm alarm × (place ≤ n - 1)
 
 lines-on : (first end n : ℕ) (h : History) (ts : List Text) → AllIn n ts → AlarmOn n (readLines first end h ts)
 unfolding readLines
@@ -49,24 +50,24 @@ lines-on first end n h (t ∷ ts) a =
     let rest = readLines first end (noted h (j .head)) ts in
     by-test (AlarmOn n) (eqb (lineAlarm h j) 0) _ (read.Alarm (lineAlarm h j) (t .place))
     (by-test (AlarmOn n) (endsWith (j .head) (j .ends)) (read.Whole first (t .after)) rest tt λ _. lines-on first end n (noted h (j .head)) ts (a .1))
-    (λ e. (above-none (lineAlarm h j) (eqb-false (lineAlarm h j) 0 e), omega (arith, a .0)))
+    (λ e. ((above-none (lineAlarm h j) (eqb-false (lineAlarm h j) 0 e), line-named h (t .bytes)), omega (arith, a .0)))
 
 read-on : (tape : List ℕ) → AlarmOn (length tape) (readOf tape)
 unfolding readOf
 read-on tape =
     let first = seekFrom opensTape tape 0 in
-    by-test (AlarmOn (length tape)) (ltb first (length tape)) _ _ (lines-on first (length tape) (length tape) nothingRead (lines tape first) (lines-in tape first)) λ _. (omega arith, omega arith)
+    by-test (AlarmOn (length tape)) (ltb first (length tape)) _ _ (lines-on first (length tape) (length tape) nothingRead (lines tape first) (lines-in tape first)) λ _. ((omega arith, omega arith), omega arith)
 
 -- ---- what comes of every input
 module _ (P : Task → Result → Type 0) (tape : List ℕ) (table : List ℤ) (set : Settings) (bytes : ℕ)
-    (none : (t : Task) (alarm place : ℕ) → 0 < alarm → place ≤ length tape → place ≤ longestTape → P t (refused alarm place))
+    (none : (t : Task) (alarm place : ℕ) → IsAlarm alarm → place ≤ length tape - 1 → place ≤ longestTape → P t (refused alarm place))
     (some : headerSize ≤ bytes → length tape ≤ longestTape → Right table set → (first end p : ℕ) → let t = taskOf (take end tape) table set first bytes in
     p < length (t .tape) → P t (resultOf (programRun t p mostCalls (startOf set)))) where
   main-is : headerSize ≤ bytes → length tape ≤ longestTape → Right table set → (first end : ℕ) → let t = taskOf (take end tape) table set first bytes in
       (f : Found) → FoundIn (length (t .tape)) f → P t (mainBy t f)
   unfolding mainBy
   main-is h n k first end (At p) on = some h n k first end p on
-  main-is h n k first end Nowhere on = none _ _ 0 (omega arith) (omega arith) (omega arith)
+  main-is h n k first end Nowhere on = none _ _ 0 (omega arith, omega arith) (omega arith) (omega arith)
 
   read-is : headerSize ≤ bytes → length tape ≤ longestTape → Right table set → (r : Read) → AlarmOn (length tape) r → P (readTask tape table set bytes r) (readThen tape table set bytes r)
   unfolding readThen mainRun
@@ -77,8 +78,8 @@ module _ (P : Task → Result → Type 0) (tape : List ℕ) (table : List ℤ) (
   unfolding whole
   every-result =
       let t = task tape table set bytes in
-      let first : (alarm : ℕ) → 0 < alarm → P t (refused alarm 0) = λ alarm h. none t alarm 0 h (omega arith) (omega arith) in
-      by-test (P t) (settingsWrong table set) _ _ (first _ (omega arith)) λ settings.
-      by-test (P t) (ltb longestTape (length tape)) _ _ (first _ (omega arith)) λ short.
-      by-test (P t) (ltb bytes headerSize) _ _ (first _ (omega arith)) λ long.
+      let first : (alarm : ℕ) → IsAlarm alarm → P t (refused alarm 0) = λ alarm h. none t alarm 0 h (omega arith) (omega arith) in
+      by-test (P t) (settingsWrong table set) _ _ (first _ (omega arith, omega arith)) λ settings.
+      by-test (P t) (ltb longestTape (length tape)) _ _ (first _ (omega arith, omega arith)) λ short.
+      by-test (P t) (ltb bytes headerSize) _ _ (first _ (omega arith, omega arith)) λ long.
       read-is (ltb-false bytes headerSize long) (ltb-false longestTape (length tape) short) (right table set settings) (readOf tape) (read-on tape)

@@ -5,10 +5,10 @@
 use mathlib.Core.Path.{_≡_}
 use mathlib.Core.Bool.{true}
 use mathlib.Core.List.{List, [], _∷_, _++_}
-use Prim.Native.Nat.{ℕ, _+_, _<_, _≤_}
+use Prim.Native.Nat.{ℕ, _+_, _-_, _*_, _<_, _≤_}
 use lib.IntN.{ℤ}
 use lib.ListN.{length, take, drop}
-use Rattle.moves.specs.Form.{headerSize, recordLimit, recordStart, headerBytes, listBytes, LawfulList}
+use Rattle.moves.specs.Form.{headerSize, recordSize, recordLimit, recordStart, headerBytes, rowBytes, listBytes, LawfulList}
 use Rattle.moves.specs.Reading.{recordsIn, countIn, listIn}
 use Rattle.moves.specs.declared.record.Record.{Record}
 use Rattle.reading.specs.Reading.{readOf}
@@ -18,7 +18,7 @@ use Rattle.turning.specs.Turned.{Turned}
 use Rattle.machine.specs.Opens.{opensTurning, cycleIn}
 use Rattle.machine.specs.declared.run.Settings.{Settings}
 use Rattle.steps.specs.Steps.{Task, taskOf, Step, blockOn}
-use Rattle.interpreter.specs.Answers.{placeOf, countOf, longestTape, whole, answerOf, bufferOf}
+use Rattle.interpreter.specs.Answers.{placeOf, countOf, Result, longestTape, whole, answerOf, bufferOf, laidBy}
 use Rattle.interpreter.specs.Runs.{recordsOf}
 use Rattle.interpreter.specs.declared.interpret.Answer.{Answer}
 use Rattle.interpreter.specs.declared.interpret.Answer.the-variants.{Complete, Alarm}
@@ -80,34 +80,47 @@ abbrev pub Front : Answer → List ℕ → List ℕ → Type 0
 Front (Complete count) b e = take headerSize e ≡ headerBytes count
 Front (Alarm alarm place count) b e = take headerSize e ≡ take headerSize b
 
--- what a buffer b holds after an answer, as e, where the steps wrote the records rs: that many records, one after the other, and every other byte as it came
+-- what a buffer b holds after an answer, as e, where the steps wrote the records rs: that many records, one after the other, in their bytes; the header's place as `Front` says, and every
+-- byte behind the records as it came
 pub record HoldsAfter (a : Answer) (b e : List ℕ) (rs : List Record) : Type 0 where
   pub counted : countOf a ≡ length rs
   pub records : recordsIn e 0 (countOf a) ≡ rs
+  pub written : take (recordSize * countOf a) (drop headerSize e) ≡ rowBytes rs
   pub front : Front a b e
   pub behind : drop (recordStart (countOf a)) e ≡ drop (recordStart (countOf a)) b
   pub size : length e ≡ length b
 
--- an alarm has a number above 0: 0 says that a list is complete
+-- an alarm is one of 01's twenty: 0 says that a list is complete
+abbrev pub IsAlarm : ℕ → Type 0
+IsAlarm n = (0 < n) × (n ≤ 20)
+
 abbrev pub Named : Answer → Type 0
 Named (Complete count) = Unit {0}
-Named (Alarm alarm place count) = 0 < alarm
+Named (Alarm alarm place count) = IsAlarm alarm
 
--- what the numbers of an answer are, on a tape of so many bytes: the place lies on the tape and has 16 bits, and there are no more records than a list may have
+-- what the numbers of an answer are, on a tape of so many bytes: the place is that of a byte of the tape, or 0, and has 16 bits; there are no more records than a list may have. (That it is
+-- the place which 01 names is in the definition of `whole`.)
 pub record Told (size : ℕ) (a : Answer) : Type 0 where
   pub number : Named a
-  pub place : placeOf a ≤ size
+  pub place : placeOf a ≤ size - 1
   pub near : placeOf a ≤ longestTape
   pub count : countOf a ≤ recordLimit
 
--- DEMAND 1, of every tape, table, settings and buffer: what the buffer holds after a list and after an alarm, and what the answer tells
-pub record DemandOne (tape : List ℕ) (table : List ℤ) (set : Settings) (b : List ℕ) : Type 0 where
-  pub holds : HoldsAfter (answerOf tape table set (length b)) b (bufferOf tape table set b) (recordsOf (whole tape table set (length b) .steps))
-  pub told : Told (length tape) (answerOf tape table set (length b))
+-- what is owed of a result, on a tape of so many bytes and in the buffer b
+pub record Owed (size : ℕ) (x : Result) (b : List ℕ) : Type 0 where
+  pub holds : HoldsAfter (x .answer) b (laidBy x b) (recordsOf (x .steps))
+  pub told : Told size (x .answer)
+
+-- DEMAND 1, of every tape, table, settings and buffer: "Every tape, table and lent buffer gets a move list or a named alarm, and the work ends. No caller has to check first. An alarm gives its
+-- number, the place on the tape and the count of records written; the buffer then holds the records of the blocks finished before it, and all its other bytes are as they came." (A refused
+-- block is no step. That the work ends is in the contract of `interpret`, as in every contract: a function that is proved comes back.)
+abbrev pub DemandOne : List ℕ → List ℤ → Settings → List ℕ → Type 0
+DemandOne tape table set b = Owed (length tape) (whole tape table set (length b)) b
 
 -- a complete list of so many records: it is read off the bytes, its header has its count, and no other list has these bytes
 pub record IsList (count : ℕ) (e : List ℕ) (rs : List Record) : Type 0 where
   pub lawful : LawfulList rs
+  pub written : take (recordStart count) e ≡ listBytes rs
   pub reads : listIn e ≡ rs
   pub header : countIn e ≡ count
   pub counted : count ≡ length rs

@@ -138,34 +138,34 @@ none-stops (next.Stop alarm) g = absurd g
 pub no-stop : (b : Block) → stopBy (nextOf b) ≡ 0
 no-stop b = none-stops (nextOf b) (next-going b)
 
--- ---- what it asks for: places on the tape, or an alarm
+-- ---- what it asks for: places on the tape, or one of 01's alarms
 abbrev pub WhatOn : ℕ → What → Type 0
 WhatOn n On = Unit {0}
-WhatOn n (Call p times) = p ≤ n
-WhatOn n (Jump p) = p ≤ n
+WhatOn n (Call p times) = p < n
+WhatOn n (Jump p) = p < n
 WhatOn n Return = Unit {0}
 WhatOn n End = Unit {0}
-WhatOn n (Stop alarm place) = 0 < alarm
+WhatOn n (Stop alarm place) = (0 < alarm) × (alarm ≤ 20)
 
 called-on : (n : ℕ) (f : Found) (calls times at : ℕ) → FoundIn n f → WhatOn n (calledAt f calls times at)
 unfolding calledAt
-called-on n Nowhere calls times at h = omega arith
-called-on n (At p) calls times at h = cond-ind (WhatOn n) (eqb calls 0) _ (Call p times) (λ _. omega arith) (omega arith)
+called-on n Nowhere calls times at h = (omega arith, omega arith)
+called-on n (At p) calls times at h = cond-ind (WhatOn n) (eqb calls 0) _ (Call p times) (λ _. (omega arith, omega arith)) h
 
 jumped-on : (n : ℕ) (f : Found) (at : ℕ) → FoundIn n f → WhatOn n (jumpedTo f at)
 unfolding jumpedTo
-jumped-on n Nowhere at h = omega arith
-jumped-on n (At p) at h = omega arith
+jumped-on n Nowhere at h = (omega arith, omega arith)
+jumped-on n (At p) at h = h
 
 looked-by : (tape : List ℕ) (first lowest program calls at : ℕ) (n : Next) → Going n → WhatOn (length tape) (lookedUp tape first lowest program calls at n)
 unfolding lookedUp
 looked-by tape first lowest program calls at next.On g = tt
 looked-by tape first lowest program calls at (next.Call n times) g =
     let f = findProgram n (lines tape first) in
-    cond-ind (WhatOn (length tape)) (ltb n lowest || ltb 255 n) _ (calledAt f calls times at) (λ _. omega arith) (called-on (length tape) f calls times at (program-on n tape first))
+    cond-ind (WhatOn (length tape)) (ltb n lowest || ltb 255 n) _ (calledAt f calls times at) (λ _. (omega arith, omega arith)) (called-on (length tape) f calls times at (program-on n tape first))
 looked-by tape first lowest program calls at (next.Jump n) g = jumped-on (length tape) (blockOfProgram n tape program) at (block-on n tape program)
-looked-by tape first lowest program calls at next.Return g = cond-ind (WhatOn (length tape)) (eqb calls mostCalls) _ Return (λ _. omega arith) tt
-looked-by tape first lowest program calls at next.End g = cond-ind (WhatOn (length tape)) (eqb calls mostCalls) End _ (λ _. tt) (omega arith)
+looked-by tape first lowest program calls at next.Return g = cond-ind (WhatOn (length tape)) (eqb calls mostCalls) _ Return (λ _. (omega arith, omega arith)) tt
+looked-by tape first lowest program calls at next.End g = cond-ind (WhatOn (length tape)) (eqb calls mostCalls) End _ (λ _. tt) (omega arith, omega arith)
 looked-by tape first lowest program calls at (next.Stop alarm) g = absurd g
 
 pub looked-on : (tape : List ℕ) (first lowest program calls at : ℕ) (b : Block) → WhatOn (length tape) (lookedUp tape first lowest program calls at (nextOf b))

@@ -62,7 +62,7 @@ unfolding whatBy
 what-on tape first lowest program calls at left b = go (eqb left 0)
   where
     go : (t : Bool) → WhatOn (length tape) (cond t (Stop tooManyBegun at) (lookedUp tape first lowest program calls at (nextOf b)))
-    go true = omega arith
+    go true = (omega arith, omega arith)
     go false = looked-on tape first lowest program calls at b
 
 -- where it is no alarm, blocks are left to begin
@@ -74,11 +74,11 @@ some-left tape first lowest program calls at (suc n) b e = omega arith
 goes-of : (t : Task) (r s : Run) (v : List Record) (w : What) → WhatOn (length (t .tape)) w → alarmBy w ≡ 0 → s .left < r .left → Goes t r s v w
 unfolding alarmBy
 goes-of t r s v On h e l = l
-goes-of t r s v (Call p times) h e l = (l, h)
-goes-of t r s v (Jump p) h e l = (l, h)
+goes-of t r s v (Call p times) h e l = (l, omega (arith, h))
+goes-of t r s v (Jump p) h e l = (l, omega (arith, h))
 goes-of t r s v Return h e l = tt
 goes-of t r s v End h e l = tt
-goes-of t r s v (Stop alarm place) h e l = absurd (omega (arith, h, e))
+goes-of t r s v (Stop alarm place) h e l = absurd (omega (arith, h .0, e))
 
 -- ---- the block's own alarm, as it comes back from the machine
 stop-of : (b : Block) (s u : State) (k m a : ℕ)

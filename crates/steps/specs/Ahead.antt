@@ -1,10 +1,9 @@
 -- What lies ahead of a block. 01: "Running a program runs its blocks". "At most ten calls deep. M17 returns. G27 goes to the block numbered L of the same program." Alarms: 14 "M17 in the main
 -- program, M30 in a subprogram, program ends without either", 10 "called number outside lowest subroutine to 255 (001: alarm 630) or missing", 11 "jump target missing", 12 "eleventh call deep".
-use mathlib.Core.Bool.{Bool, cond, _||_}
+use mathlib.Core.Bool.{cond, _||_}
 use mathlib.Core.List.{List, [], _∷_}
-use Prim.Native.Nat.{ℕ, _≤_}
+use Prim.Native.Nat.{ℕ}
 use lib.Dec.{ltb, eqb}
-use lib.ListN.{length}
 use Rattle.alarms.specs.Numbers.{programMissing, blockMissing, tooDeep, wrongEnd}
 use Rattle.tape.specs.Lines.{Text, lines}
 use Rattle.block.specs.Words.{headOf}

@@ -1,7 +1,7 @@
 -- One step of a run. 01, "Running a block" and "Alarms and their order": "then blocks as run: 13, 14, 10, 11, 12, 15, 16, 17, 19, 18, 20. A refused block writes nothing." "A run begins at most
 -- 20,000 blocks, repeats and calls counted." "Place: first byte of the line; the program line where a program ends early".
 use mathlib.Core.Path.{_≡_}
-use mathlib.Core.Bool.{Bool, cond}
+use mathlib.Core.Bool.{cond}
 use mathlib.Core.List.{List, []}
 use Prim.Native.Nat.{ℕ, _+_, _-_, _≤_, _<_}
 use lib.Dec.{ltb, eqb}

@@ -6,8 +6,8 @@ use Rattle.board.proofs.Doors.{nine, refused-here, ran-here, answer-fit
 use Rattle.board.proofs.tm02_interpret.Statement.{statement}
 use Rattle.board.proofs.tm02_interpret.Tie as tie
 
-not-nine-requires : tie.Need-not-nine-requires
-not-nine-requires c κs = search needs
+unfit-requires : tie.Need-unfit-requires
+unfit-requires c κs = search needs
 
 packed-answer-requires : tie.Need-packed-answer-requires
 packed-answer-requires c κs = search needs
@@ -15,10 +15,10 @@ packed-answer-requires c κs = search needs
 returns : tie.Need-returns
 returns c =
     let a = c .before .before .before .before .before .args in
-    refused-here (now (a .tape)) (now (a .table)) (now (a .settings)) (now (a .buf)) (sym (c .before .before .not-nine .ensures) ∙ c .before .if1 .taken) (c .packed-answer .ensures)
+    refused-here (now (a .tape)) (now (a .table)) (now (a .settings)) (now (a .buf)) (sym (c .before .before .unfit .ensures) ∙ c .before .if1 .taken) (c .packed-answer .ensures)
 
 settings-of-requires : tie.Need-settings-of-requires
-settings-of-requires c κs = nine (now (c .before .before .before .before .args .settings)) (sym (c .before .not-nine .ensures) ∙ c .if1 .left)
+settings-of-requires c κs = nine (now (c .before .before .before .before .args .settings)) (sym (c .before .unfit .ensures) ∙ c .if1 .left)
 
 interpret-requires : tie.Need-interpret-requires
 interpret-requires c κs = search needs
@@ -36,14 +36,14 @@ returns-2 c =
     let a = c .before .before .before .before .before .before .before .before .before .before .args in
     let e = c .before .before .before .before .before .before in
     let run = c .before .before .before .interpret in
-    ran-here (now (a .tape)) (now (a .table)) (now (a .settings)) (now (a .buf)) (sym (e .before .not-nine .ensures) ∙ e .if1 .left)
+    ran-here (now (a .tape)) (now (a .table)) (now (a .settings)) (now (a .buf)) (sym (e .before .unfit .ensures) ∙ e .if1 .left)
     (c .before .before .before .before .before .settings-of .ensures) (run .ensures .0) (c .packed-answer2 .ensures) (run .ensures .1)
 
 pub tm02-interpret-spec : {M : Type 1} → statement M
 tm02-interpret-spec =
     tie.close
     (tie.spec
-    not-nine-requires
+    unfit-requires
     packed-answer-requires
     returns
     settings-of-requires

@@ -1,4 +1,4 @@
--- `board::not_nine` meets its contract.
+-- `board::unfit` meets its contract.
 use mathlib.Core.Path.{_≡_, ap}
 use mathlib.Core.List.{List}
 use Prim.Native.Nat.{ℕ}
@@ -11,8 +11,8 @@ use denote.Ref.{now}
 use borrow.Author.Needs.{needs, sfits-of}
 use Rattle.board.specs.Door.{at, isBelow}
 use Rattle.board.proofs.Doors.{other-length, are-nine}
-use Rattle.board.proofs.not_nine.Statement.{statement}
-use Rattle.board.proofs.not_nine.Tie as tie
+use Rattle.board.proofs.unfit.Statement.{statement}
+use Rattle.board.proofs.unfit.Tie as tie
 
 returns : tie.Need-returns
 returns c = other-length (now (c .before .args .numbers)) (c .if1 .taken)
@@ -39,8 +39,8 @@ returns-2 c =
     (below 1 (toZ-ofZ (sfits-of {w = w32} (c .before .result2 .given))))
     (below 2 (toZ-ofZ (sfits-of {w = w32} (c .result3 .given))))
 
-pub not-nine-spec : {M : Type 1} → statement M
-not-nine-spec =
+pub unfit-spec : {M : Type 1} → statement M
+unfit-spec =
     tie.close
     (tie.spec
     returns
