@@ -52,6 +52,3 @@ module _ (tape : List ℕ) (table : List ℤ) (set : Settings) (bytes : ℕ) whe
 
   pub demand-three : DemandThree tape table set bytes
   demand-three = shown .cycles
-
-  pub count-is-written : countOf (answerOf tape table set bytes) ≡ length (recordsOf (whole tape table set bytes .steps))
-  count-is-written = shown .count

@@ -60,11 +60,6 @@ width-minus g e =
     let h = asked g e .below in
     sym (is-minus (g .width .target -ℤ g .width .start) (omega (whole, sub-in (g .width .target) (g .width .start))))
 
--- its length below the start lies its target
-pub width-target : (g : Groove) → wrong g ≡ false → g .width .start +ℤ along Minus (lengthOf (g .width)) ≡ g .width .target
-width-target g e =
-    subst (λ s. g .width .start +ℤ along s (lengthOf (g .width)) ≡ g .width .target) (width-minus g e) (arrives (g .width .start) (g .width .target))
-
 -- and what lies on the way to it fits where both do
 pub width-fits : (g : Groove) → wrong g ≡ false → SFits w32 (g .width .start) → SFits w32 (g .width .target) → (m : ℕ) → m ≤ lengthOf (g .width)
     → SFits w32 (g .width .start +ℤ along Minus m)
