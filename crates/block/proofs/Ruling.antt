@@ -1,7 +1,7 @@
 -- Laws of the tests that the word rules are made of.
 -- Assumes nothing.
 use mathlib.Core.Path.{_≡_, refl, sym, ap, _∙_, subst}
-use mathlib.Core.Bool.{Bool, true, false, not, _&&_}
+use mathlib.Core.Bool.{Bool, true, false, not, _&&_, _||_}
 use mathlib.Core.List.{List, [], _∷_}
 use Prim.Native.Nat.{ℕ, zero, suc, _+_, _-_, _≤_, _<_}
 use native.Mathlib.Numerals.{add-one}
@@ -51,3 +51,10 @@ first-fails t false x e f = ap (λ (b : Bool). b && x) e
 pub second-tells : (t u x y : Bool) → u ≡ t → not u ≡ false → y ≡ x → y ≡ (t && x)
 second-tells t true x y e f g = g ∙ ap (λ (b : Bool). b && x) e
 second-tells t false x y e f g = absurd (subst T f tt)
+
+-- tests that are equal part by part are equal
+pub both : {t u x y : Bool} → t ≡ u → x ≡ y → (t && x) ≡ (u && y)
+both {u = u} {x = x} e f = ap (λ (b : Bool). b && x) e ∙ ap (λ (b : Bool). u && b) f
+
+pub either : {t u x y : Bool} → t ≡ u → x ≡ y → (t || x) ≡ (u || y)
+either {u = u} {x = x} e f = ap (λ (b : Bool). b || x) e ∙ ap (λ (b : Bool). u || b) f

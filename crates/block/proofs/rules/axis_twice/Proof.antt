@@ -1,5 +1,6 @@
 -- `block::rules::axis_twice` meets its contract.
 use Rattle.block.specs.Rules.{axisTwice}
+use Rattle.block.proofs.Ruling.{both, either}
 use borrow.Author.Needs.{needs}
 use Rattle.block.proofs.rules.axis_twice.Statement.{statement}
 use Rattle.block.proofs.rules.axis_twice.Tie as tie
@@ -18,7 +19,9 @@ has-requires-4 c κs = search needs
 
 returns : tie.Need-returns
 unfolding axisTwice
-returns c = cc
+returns c =
+    let x = c .before .before in
+    either (both (x .before .has .ensures) (x .has2 .ensures)) (both (c .before .has3 .ensures) (c .has4 .ensures))
 
 pub axis-twice-spec : {M : Type 1} → statement M
 axis-twice-spec =

@@ -1,5 +1,8 @@
 -- `block::rules::breaks_rules` meets its contract.
 use Rattle.block.specs.Rules.{broken, unknownNumber, lateN}
+use mathlib.Core.Path.{refl}
+use mathlib.Core.Bool.{_||_}
+use Rattle.block.proofs.Ruling.{either}
 use borrow.Author.Needs.{needs}
 use Rattle.block.proofs.rules.breaks_rules.Statement.{statement}
 use Rattle.block.proofs.rules.breaks_rules.Tie as tie
@@ -30,7 +33,15 @@ width-missing-requires c κs = search needs
 
 returns : tie.Need-returns
 unfolding broken unknownNumber lateN
-returns c = cc
+returns c =
+    let d = c .before .before in
+    let w = d .before in
+    let m = w .before .before in
+    let b = m .before .before .before .before .args .b in
+    let labels = either (m .before .l-word-wrong .ensures) (m .more-than-l .ensures) in
+    let dwells = either (w .before .dwell-with-call .ensures) (w .dwell-with-path .ensures) in
+    let cycles = either (c .before .axis-missing .ensures) (c .width-missing .ensures) in
+    either {t = b .unknown || b .late} refl (either (m .before .before .axis-twice .ensures) (either labels (either dwells (either (d .d-word-wrong .ensures) cycles))))
 
 pub breaks-rules-spec : {M : Type 1} → statement M
 breaks-rules-spec =

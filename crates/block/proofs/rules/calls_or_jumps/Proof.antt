@@ -12,7 +12,7 @@ has-requires c κs = search needs
 
 returns : tie.Need-returns
 unfolding callsOrJumps
-returns c = cc
+returns c = c .has .ensures
 
 pub calls-or-jumps-spec : {M : Type 1} → statement M
 calls-or-jumps-spec = tie.close (tie.spec add-has has-requires returns)

@@ -1,5 +1,8 @@
 -- `block::rules::d_word_wrong` meets its contract.
 use Rattle.block.specs.Rules.{dWordWrong, allowanceWrong, divisionWrong, dwellWrong, widthWrong, otherPOrD}
+use mathlib.Core.Path.{ap}
+use mathlib.Core.Bool.{not}
+use Rattle.block.proofs.Ruling.{both, either}
 use borrow.Author.Needs.{needs}
 use Rattle.block.proofs.rules.d_word_wrong.Statement.{statement}
 use Rattle.block.proofs.rules.d_word_wrong.Tie as tie
@@ -57,7 +60,20 @@ any-requires-2 c κs = search needs
 
 returns : tie.Need-returns
 unfolding dWordWrong allowanceWrong divisionWrong dwellWrong widthWrong otherPOrD
-returns c = cc
+returns c =
+    let d = c .before .before in
+    let w = d .before .before .before in
+    let a = w .before in
+    let g = a .before .before in
+    let dwell = g .before .before .group-zero-is .ensures in
+    let turning = g .before .group-zero-is2 .ensures in
+    let grooving = g .group-zero-is3 .ensures in
+    let allowance = both (either (a .before .has .ensures) (a .has2 .ensures)) (ap not turning) in
+    let division = both (w .has3 .ensures) (ap not (either turning grooving)) in
+    let dwelling = both (d .before .before .has4 .ensures) (ap not (either dwell grooving)) in
+    let width = both (d .before .has5 .ensures) (ap not grooving) in
+    let other = either (either (d .has6 .ensures) (c .before .any .ensures)) (c .any2 .ensures) in
+    either allowance (either division (either dwelling (either width other)))
 
 pub d-word-wrong-spec : {M : Type 1} → statement M
 d-word-wrong-spec =

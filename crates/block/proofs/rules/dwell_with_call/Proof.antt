@@ -1,5 +1,6 @@
 -- `block::rules::dwell_with_call` meets its contract.
 use Rattle.block.specs.Rules.{dwellWithCall}
+use Rattle.block.proofs.Ruling.{both}
 use borrow.Author.Needs.{needs}
 use Rattle.block.proofs.rules.dwell_with_call.Statement.{statement}
 use Rattle.block.proofs.rules.dwell_with_call.Tie as tie
@@ -12,7 +13,7 @@ calls-or-jumps-requires c κs = search needs
 
 returns : tie.Need-returns
 unfolding dwellWithCall
-returns c = cc
+returns c = both (c .before .group-zero-is .ensures) (c .calls-or-jumps .ensures)
 
 pub dwell-with-call-spec : {M : Type 1} → statement M
 dwell-with-call-spec = tie.close (tie.spec group-zero-is-requires calls-or-jumps-requires returns)

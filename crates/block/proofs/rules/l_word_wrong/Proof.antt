@@ -1,5 +1,8 @@
 -- `block::rules::l_word_wrong` meets its contract.
 use Rattle.block.specs.Rules.{lWordWrong}
+use mathlib.Core.Path.{ap}
+use mathlib.Core.Bool.{not}
+use Rattle.block.proofs.Ruling.{both, either}
 use borrow.Author.Needs.{needs}
 use Rattle.block.proofs.rules.l_word_wrong.Statement.{statement}
 use Rattle.block.proofs.rules.l_word_wrong.Tie as tie
@@ -12,7 +15,10 @@ calls-or-jumps-requires c κs = search needs
 
 returns : tie.Need-returns
 unfolding lWordWrong
-returns c = cc
+returns c =
+    let label = c .before .has .ensures in
+    let calls = c .calls-or-jumps .ensures in
+    either (both calls (ap not label)) (both (ap not calls) label)
 
 pub l-word-wrong-spec : {M : Type 1} → statement M
 l-word-wrong-spec = tie.close (tie.spec has-requires calls-or-jumps-requires returns)

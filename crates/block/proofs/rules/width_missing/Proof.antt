@@ -1,5 +1,8 @@
 -- `block::rules::width_missing` meets its contract.
 use Rattle.block.specs.Rules.{widthMissing}
+use mathlib.Core.Path.{ap}
+use mathlib.Core.Bool.{not}
+use Rattle.block.proofs.Ruling.{both}
 use borrow.Author.Needs.{needs}
 use Rattle.block.proofs.rules.width_missing.Statement.{statement}
 use Rattle.block.proofs.rules.width_missing.Tie as tie
@@ -15,7 +18,7 @@ has-requires c κs = search needs
 
 returns : tie.Need-returns
 unfolding widthMissing
-returns c = cc
+returns c = both (c .before .group-zero-is .ensures) (ap not (c .has .ensures))
 
 pub width-missing-spec : {M : Type 1} → statement M
 width-missing-spec = tie.close (tie.spec group-zero-is-requires add-has has-requires returns)
