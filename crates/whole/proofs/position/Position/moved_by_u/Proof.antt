@@ -1,11 +1,11 @@
 -- `whole::position::Position::moved_by_u` meets its contract.
 use borrow.Author.Needs.{needs, sfits-of}
-use mathlib.Core.Path.{_≡_, ap, _∙_}
+use mathlib.Core.Path.{ap, _∙_}
 use lib.IntN.{ℤ, pos, _+ℤ_, _*ℤ_}
 use mir.Syntax.{w32, w64}
-use mir.Val.{SFits}
+use mir.Val.{SFits, toZ, ofZ}
 use Rattle.whole.proofs.Integers.{whole, add-in, up-mul, down-mul}
-use Rattle.whole.proofs.Held.{held, is, num, sum, prod, cast}
+use Rattle.whole.proofs.Held.{Holds, held, is, num, sum, sum-need, prod, prod-need, cast, cast-need}
 use Rattle.whole.specs.Position.{placed}
 use Rattle.whole.proofs.position.Position.moved_by_u.Statement.{statement}
 use Rattle.whole.proofs.position.Position.moved_by_u.Tie as tie
@@ -26,16 +26,20 @@ fit c =
     record { field = f; um = omega whole; word = omega whole; double = omega (whole, up-mul 2 u, down-mul 2 u); sum = omega (whole, up-mul 2 u, down-mul 2 u, add-in a (pos 2 *ℤ u)) }
 
 cast-place : tie.Need-cast-place
-cast-place c = let f = fit c in search needs
+cast-place c = let f = fit c in cast-need (held (f .field)) w64 (f .um)
 
 cast-place-2 : tie.Need-cast-place-2
-cast-place-2 c = let f = fit c in search needs
+cast-place-2 c = cast-need (held (c .before .fits .u)) w64 (fit c .word)
+
+-- what the locals hold
+twice : (c : tie.After-struct-told) → Holds w64 (ofZ w64 (toZ w64 (ofZ w64 (pos 2)) *ℤ toZ w64 (ofZ w64 (toZ w32 (ofZ w32 (c .before .args .u)))))) (pos 2 *ℤ c .before .args .u)
+twice c = prod (num w64 (pos 2) tt) (cast (held (c .before .fits .u)) w64 (fit c .word)) (fit c .double)
 
 mul-place : tie.Need-mul-place
-mul-place c = let f = fit c in search needs
+mul-place c = prod-need (num w64 (pos 2) tt) (cast (held (c .before .fits .u)) w64 (fit c .word)) (fit c .double)
 
 add-place : tie.Need-add-place
-add-place c = let f = fit c in search needs
+add-place c = let f = fit c in sum-need (cast (held (f .field)) w64 (f .um)) (twice c) (f .sum)
 
 place-requires : tie.Need-place-requires
 place-requires c κs = search needs
@@ -43,9 +47,7 @@ place-requires c κs = search needs
 returns : tie.Need-returns
 returns c =
     let f = fit (c .before) in
-    let a = cast (held (f .field)) w64 (f .um) in
-    let u = cast (held (c .before .before .fits .u)) w64 (f .word) in
-    c .place .ensures ∙ ap placed (is (sum a (prod (num w64 (pos 2) tt) u (f .double)) (f .sum)))
+    c .place .ensures ∙ ap placed (is (sum (cast (held (f .field)) w64 (f .um)) (twice (c .before)) (f .sum)))
 
 pub moved-by-u-spec : {M : Type 1} → statement M
 moved-by-u-spec = tie.close (tie.spec cast-place cast-place-2 mul-place add-place place-requires returns)
