@@ -6,7 +6,7 @@ use mathlib.Core.List.{List}
 use Prim.Native.Nat.{ℕ, _+_, _≤_}
 use native.Mathlib.Omega.{arith}
 use lib.ListN.{length}
-use Rattle.tape.specs.Words.{word, faulty, onward, nextWord, wordsFrom}
+use Rattle.tape.specs.Words.{faulty, onward, nextWord, wordsFrom}
 use Rattle.tape.specs.declared.word.Word.{Word}
 use Rattle.tape.specs.declared.word.Next.{Next}
 use Rattle.tape.specs.declared.word.Next.the-variants as next

@@ -11,7 +11,7 @@ use borrow.Author.Tests.{leb-true, le-leb}
 use Rattle.block.specs.declared.codes.Code.{Code}
 use Rattle.block.specs.declared.codes.Code.the-variants.{Of, Unknown}
 use Rattle.block.specs.declared.codes.Meaning.the-variants as means
-use Rattle.block.specs.Codes.{Row, one, range, look, gRows, mRows, gCode, mCode}
+use Rattle.block.specs.Codes.{Row, range, look, gRows, mRows, gCode, mCode}
 
 -- a row that does not hold n
 miss : (l h n : ℕ) → (l ≤ n → n ≤ h → ⊥) → (leb l n && leb n h) ≡ false

@@ -1,10 +1,10 @@
 -- 01: "Word rules, else alarm 9 (numbers are judged on every word; what a G or M asks or forbids holds only where that word applies)". A definition for each rule;
 -- each is true where the rule is broken. All but the first three look at the applying words alone.
-use mathlib.Core.Bool.{Bool, true, false, cond, not, _&&_, _||_}
+use mathlib.Core.Bool.{Bool, false, cond, not, _&&_, _||_}
 use mathlib.Core.List.{List, [], _∷_}
 use Prim.Native.Nat.{ℕ, _+_, _-_}
 use lib.Dec.{ltb, eqb}
-use lib.IntN.{ℤ, pos, natAbs}
+use lib.IntN.{pos, natAbs}
 use lib.ListN.{length, getD, take, drop}
 use Rattle.alarms.specs.Numbers.{badByteOrNumber, lineTooLong}
 use Rattle.block.specs.declared.words.Block.{Block}

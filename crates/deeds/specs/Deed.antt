@@ -5,7 +5,6 @@
 use mathlib.Core.Bool.{Bool, true, false, cond, _||_}
 use Prim.Native.Nat.{ℕ, _+_, _*_, _<_}
 use lib.Dec.{ltb}
-use lib.IntN.{ℤ}
 use lib.ListN.{getD}
 use Rattle.block.specs.Rules.{has}
 use Rattle.block.specs.Words.{dFirst}

@@ -1,10 +1,8 @@
 -- The alarms of a block's deed: 15 "path word with no motion function", 16 "first traverse not G00", 17 "F missing or out of range", 19 "cycle lengths, directions or tool width", 18 "a move
 -- ends outside the limits", 20 "records above 4,000 or above the buffer", in this order.
-use mathlib.Core.Path.{_≡_}
 use mathlib.Core.Bool.{Bool, true, false, cond, not, _&&_, _||_}
 use Prim.Native.Nat.{ℕ, _+_, _<_}
-use lib.Dec.{ltb, eqb}
-use lib.IntN.{ℤ}
+use lib.Dec.{ltb}
 use Rattle.alarms.specs.Numbers.{noMotion, notRapid, badFeed, outsideLimits, badLengths, noRoom}
 use Rattle.cycles.specs.Limits.{outside, anyOutside}
 use Rattle.cycles.specs.declared.limits.Limits.{Limits}

@@ -9,7 +9,7 @@ use lib.ListN.{length, take}
 use Rattle.machine.specs.declared.run.Settings.{Settings}
 use Rattle.steps.specs.Ahead.{mostCalls}
 use Rattle.steps.specs.Steps.{Task, taskOf}
-use Rattle.interpreter.specs.Answers.{countOf, Result, refused, answerBy, resultOf, startOf, whole, answerOf}
+use Rattle.interpreter.specs.Answers.{countOf, Result, refused, answerBy, resultOf, startOf, whole}
 use Rattle.interpreter.specs.Runs.{recordsOf, programRun}
 use Rattle.interpreter.specs.declared.run.How.{How}
 use Rattle.interpreter.specs.declared.run.How.the-variants.{Returned, Ended, Stopped}

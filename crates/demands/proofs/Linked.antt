@@ -12,7 +12,7 @@ use Rattle.tape.specs.Lines.{lineAt, textAt, lines}
 use Rattle.reading.specs.declared.find.Found.{Found}
 use Rattle.reading.specs.declared.find.Found.the-variants.{At, Nowhere}
 use Rattle.machine.specs.Blocks.{alarmIn, doneRecords}
-use Rattle.steps.specs.Ahead.{firstBlock}
+use Rattle.reading.specs.Finding.{firstBlock}
 use Rattle.steps.specs.Steps.{Task, Step, blockOn, whatOf, alarmBy, alarmAt, runAfter, didAt, recordsAt, takenBy, takenFrom}
 use Rattle.steps.specs.declared.ahead.What.{What}
 use Rattle.steps.specs.declared.ahead.What.the-variants.{On, Call, Jump, Return, End, Stop}

@@ -11,7 +11,7 @@ use Rattle.tape.specs.Words.{capital, endsNumber, kindOf, numberWord, indexedWo
 use Rattle.block.specs.Codes.{gCode, mCode}
 use Rattle.block.specs.Rules.{has, anyFrom, groupZeroIs, callsOrJumps, unknownNumber, lateN, afterProgram, axisTwice, lWordWrong, moreThanL, dwellWithCall, dwellWithPath, allowanceWrong, divisionWrong, dwellWrong, widthWrong, otherPOrD, dWordWrong, axisMissing, widthMissing, broken, brokenBy, judged}
 use Rattle.block.specs.Words.{slotOf, noWords, isEnd, putWord, isProgramAddress, faultyRest, gather, headBy, headOf, lineOf}
-use Rattle.reading.specs.Finding.{programAt, findProgram, blockAt, findBlock, blockOfProgram}
+use Rattle.reading.specs.Finding.{hereOf, foundBy, seekLine, blockOfProgram}
 use Rattle.reading.specs.Reading.{headAlarm, lineAlarm, noted, endsWith, readLines, readOf}
 use Rattle.cycles.specs.Goes.{rapidTo, feedTo, dwellAt}
 use Rattle.cycles.specs.Limits.{outsideSpan, outside, anyOutside}
@@ -24,7 +24,7 @@ use Rattle.deeds.specs.Deed.{hasPath, isFacing, cycleOf, grooveOf, moveOf, deed
 use Rattle.deeds.specs.Judge.{isTraverse, isRapid, feedWrong, lengthWrong, endsOutside, deedRecords, isNowhere, alarmOf}
 use Rattle.machine.specs.Blocks.{sendingOf, deedIn, askedIn, alarmIn, doneRecords, doneState}
 use Rattle.machine.specs.Writes.{oneIf, speedOf, toolOf, mOf, dwellOf, speedAndTool, spindleAndCoolant, doing, moved, done, stops, stopping, writes, others}
-use Rattle.steps.specs.Ahead.{blockHere, firstBlock, calledAt, jumpedTo, lookedUp}
+use Rattle.steps.specs.Ahead.{calledAt, jumpedTo, lookedUp}
 use Rattle.steps.specs.Steps.{blockIn, blockOn, whatBy, alarmBy, alarmAt, runAfter, didAt, recordsAt, takenBy, takenFrom}
 use Rattle.interpreter.specs.Answers.{answerBy, resultOf, mainBy, mainRun, readThen, whole}
 use Rattle.interpreter.specs.Runs.{recordsOf, pre, goBack, andThen, goOn, onward, blocks, enough, repeated, called}
@@ -35,11 +35,11 @@ pub pieces-come-out : allHold table ≡ true
 unfolding count pieces inTable roomOf seek opensTape isFeed lineAt gapOf linesUp lines digitsOf unsignedPath pathOf digitsIn numberOf capital endsNumber kindOf numberWord
     indexedWord wordAt nextWord wordsUp wordsFrom gCode mCode has anyFrom groupZeroIs callsOrJumps unknownNumber lateN afterProgram axisTwice lWordWrong moreThanL
     dwellWithCall dwellWithPath allowanceWrong divisionWrong dwellWrong widthWrong otherPOrD dWordWrong axisMissing widthMissing broken brokenBy judged slotOf noWords isEnd
-    putWord isProgramAddress faultyRest gather headBy headOf lineOf programAt findProgram blockAt findBlock blockOfProgram headAlarm lineAlarm noted endsWith readLines readOf
+    putWord isProgramAddress faultyRest gather headBy headOf lineOf hereOf foundBy seekLine blockOfProgram headAlarm lineAlarm noted endsWith readLines readOf
     rapidTo feedTo dwellAt outsideSpan outside anyOutside tooShort passCount passOn passes turning recordCount wrong stepCount steps cutCount cutting dwelling plunge plunges
     grooving plungeCount recordCountGrooving codeIn motionBy blockMotion keep shiftBy shiftAfter flagAfter correctionAfter feedAfter dueAfter settled timesOf steered flowBy
     nextOf pairOf correctionPair offsetOf sent targetX targetZ hasPath isFacing cycleOf grooveOf moveOf deedOf isTraverse isRapid feedWrong lengthWrong endsOutside deedRecords
     isNowhere alarmOf sendingOf deedIn askedIn alarmIn doneRecords doneState oneIf speedOf toolOf mOf dwellOf speedAndTool spindleAndCoolant doing moved done stops stopping
-    writes others blockHere firstBlock calledAt jumpedTo lookedUp blockIn blockOn whatBy alarmBy alarmAt runAfter didAt recordsAt takenBy takenFrom answerBy resultOf mainBy
+    writes others calledAt jumpedTo lookedUp blockIn blockOn whatBy alarmBy alarmAt runAfter didAt recordsAt takenBy takenFrom answerBy resultOf mainBy
     mainRun readThen whole recordsOf pre goBack andThen goOn onward blocks enough repeated called someOut spanWrong numbersWrong tableWrong settingsWrong
 pieces-come-out = refl

@@ -16,7 +16,7 @@ use Rattle.whole.specs.Signed.{along}
 use Rattle.whole.proofs.Sides.{toward}
 use Rattle.moves.specs.declared.record.Record.{Record}
 use Rattle.moves.specs.Form.{Fitting, AllFitting}
-use Rattle.cycles.specs.Goes.{rapidTo, feedTo, dwellAt}
+use Rattle.cycles.specs.Goes.{dwellAt}
 use Rattle.cycles.proofs.Fitting.{rapid-fitting, feed-fitting, dwell-fitting}
 use Rattle.grooving.specs.declared.groove.Way.{Way}
 use Rattle.grooving.specs.declared.groove.Groove.{Groove}

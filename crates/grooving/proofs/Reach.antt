@@ -1,17 +1,14 @@
 -- Where a groove reaches: a move of it ends outside the limits just where one of two points does, its start, and the bottom of the last plunge.
 -- Every record lies between these two on each axis, and both are ends of moves.
 -- Assumes nothing.
-use mathlib.Core.Path.{_≡_, refl, sym, ap, _∙_, subst}
-use mathlib.Core.Bool.{Bool, true, false, cond, _||_}
+use mathlib.Core.Path.{_≡_, refl, sym, _∙_, subst}
+use mathlib.Core.Bool.{Bool, false, _||_}
 use mathlib.Core.List.{List, [], _∷_}
 use Prim.Native.Nat.{ℕ, _≤_}
-use lib.Dec.{T}
 use lib.IntN.{ℤ}
 use Rattle.whole.specs.declared.signed.Side.the-variants.{Minus}
 use Rattle.moves.specs.declared.record.Record.{Record}
-use Rattle.cycles.specs.declared.limits.Span.{Span}
 use Rattle.cycles.specs.declared.limits.Limits.{Limits}
-use Rattle.cycles.specs.Goes.{rapidTo, feedTo, dwellAt}
 use Rattle.cycles.specs.Limits.{outsideSpan, outside, outsideTo, anyOutside}
 use Rattle.cycles.proofs.Reaching.{span-between}
 use Rattle.cycles.proofs.Places.{alike, neither, both, inSpan, acrossSpan, Within, within, not-outside, rapid-ends, feed-ends, dwell-ends}

@@ -21,11 +21,11 @@ use Rattle.whole.specs.Bytes.{laid}
 use Rattle.whole.proofs.Integers.{whole, sub-in, abs}
 use Rattle.whole.proofs.Sides.{along-add, along-zero}
 use Rattle.whole.proofs.Divisions.{pieces-length, line-first, line-last, line-next}
-use Rattle.whole.proofs.Laying.{laid-nil, laid-on, length-laid}
+use Rattle.whole.proofs.Laying.{laid-nil, length-laid}
 use Rattle.moves.specs.declared.record.Record.{Record}
 use Rattle.moves.specs.Form.{recordStart, recordBytes, rowBytes}
 use Rattle.moves.proofs.Rows.{row-on, one-on}
-use Rattle.moves.proofs.OneReading.{length-row, row-append}
+use Rattle.moves.proofs.OneReading.{length-row}
 use Rattle.cycles.specs.Goes.{rapidTo, feedTo, dwellAt}
 use Rattle.grooving.specs.declared.groove.Groove.{Groove}
 use Rattle.grooving.specs.Grooving.{lengthOf, wrong, rest, stepCount, steps, cutCount, cuts, cutTo, outTo, deepAt, cutting, dwelling, plunge, plunges, afterFirst, grooving, plungeCount, recordCount}

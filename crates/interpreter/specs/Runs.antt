@@ -9,7 +9,6 @@ use Rattle.tape.specs.Lines.{lineAt}
 use Rattle.steps.specs.Steps.{Task, Step, Taken, takenFrom, Wrote}
 use Rattle.steps.specs.declared.ahead.What.{What}
 use Rattle.steps.specs.declared.ahead.What.the-variants.{On, Call, Jump, Return, End, Stop}
-use Rattle.steps.specs.declared.step.Did.{Did}
 use Rattle.steps.specs.declared.step.Run.{Run}
 use Rattle.interpreter.specs.declared.run.How.{How}
 use Rattle.interpreter.specs.declared.run.How.the-variants.{Returned, Ended, Stopped}

@@ -1,14 +1,14 @@
 -- WHAT `listmoves` PRINTS, for every tape. 01: "The program `listmoves` reads a tape from standard input, with main 1, lowest subroutine 80, retract 500,
 -- start X 60000 Z 50000, limits -200000 to 200000, table zero."
 use mathlib.Core.List.{List}
-use Prim.Native.Nat.{ℕ}
+use Prim.Native.Nat.{ℕ, _+_, _*_}
 use lib.IntN.{ℤ, pos, negsuc}
 use lib.ListN.{length, replicate}
 use Rattle.cycles.specs.declared.limits.Span.{Span}
 use Rattle.moves.specs.Form.{recordLimit, recordStart}
 use Rattle.machine.specs.declared.run.Settings.{Settings}
 use Rattle.interpreter.specs.Answers.{answerOf, bufferOf}
-use Rattle.listing.specs.Listing.{textOf}
+use Rattle.listing.specs.Listing.{longestHead, longestLine, listingOf}
 
 abbrev pub span : Span
 span = record { lowest = negsuc 199_999; highest = pos 200_000 }
@@ -24,7 +24,10 @@ noOffsets = replicate 208 (pos 0)
 unfoldable pub freshBuffer : List ℕ
 freshBuffer = replicate (recordStart recordLimit) 0
 
--- the listing of what the interpreter answers and leaves in that buffer, where there is so much room for it
-unfoldable pub printed : List ℕ → ℕ → List ℕ
-printed tape room =
-    textOf (answerOf tape noOffsets settings (length freshBuffer)) (bufferOf tape noOffsets settings freshBuffer) room
+-- the listing of what the interpreter answers and leaves in that buffer
+unfoldable pub printed : List ℕ → List ℕ
+printed tape = listingOf (answerOf tape noOffsets settings (length freshBuffer)) (bufferOf tape noOffsets settings freshBuffer)
+
+-- room for every listing
+abbrev pub textSize : ℕ
+textSize = longestHead + longestLine * recordLimit

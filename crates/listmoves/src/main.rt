@@ -6,12 +6,10 @@ use libc::STDIN_FILENO;
 use libc::STDOUT_FILENO;
 use machine::run::Settings;
 ghost use mathlib.Core.Path.{_≡_};
-ghost use Prim.Native.Nat.{_+_, _*_, _≤_};
+ghost use Prim.Native.Nat.{_≤_};
 ghost use lib.ListN.{length};
 ghost use Rattle.whole.specs.Bytes.{laid};
-ghost use Rattle.moves.specs.Form.{recordLimit};
-ghost use Rattle.listing.specs.Listing.{longestHead, longestLine};
-ghost use Rattle.listmoves.specs.Printed.{settings, noOffsets, freshBuffer, printed};
+ghost use Rattle.listmoves.specs.Printed.{settings, noOffsets, freshBuffer, printed, textSize};
 
 // The buffer that is lent: the header and as many records as a list may have.
 const BUFFER: usize = moves::HEADER_SIZE + moves::RECORD_SIZE * moves::RECORD_LIMIT;
@@ -51,15 +49,16 @@ fn fresh_buffer() -> [u8; BUFFER]
 }
 
 fn text_buffer() -> [u8; TEXT]
-    ensures { λ r. ⌜ longestHead + longestLine * recordLimit ≡ length r ⌝ }
+    ensures { λ r. ⌜ textSize ≡ length r ⌝ }
 {
     [0u8; TEXT]
 }
 
 // Runs a tape and makes its listing at the front of `out`. Answers how long it is.
 fn list_moves(tape: &[u8], out: &mut [u8]) -> usize
-    ensures result { λ r. ⌜ r ≡ length (printed (now (tape .entry)) (length (now (out .entry)))) ⌝ }
-    ensures text { λ _. ⌜ now (out .exit) ≡ laid (now (out .entry)) 0 (printed (now (tape .entry)) (length (now (out .entry)))) ⌝ }
+    requires { ⌜ textSize ≤ length (now out) ⌝ }
+    ensures result { λ r. ⌜ r ≡ length (printed (now (tape .entry))) ⌝ }
+    ensures text { λ _. ⌜ now (out .exit) ≡ laid (now (out .entry)) 0 (printed (now (tape .entry))) ⌝ }
     ensures within { λ r. ⌜ r ≤ length (now (out .entry)) ⌝ }
 {
     let table = no_offsets();

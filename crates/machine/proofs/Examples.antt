@@ -1,9 +1,8 @@
 -- 01's listing: its three blocks, one after the other, computed from the definitions with the settings of `listmoves`.
 -- Assumes nothing.
 use mathlib.Core.Path.{_≡_, refl}
-use mathlib.Core.Bool.{true, false}
+use mathlib.Core.Bool.{true}
 use mathlib.Core.List.{List, [], _∷_, _++_}
-use Prim.Native.Nat.{ℕ}
 use lib.IntN.{ℤ, pos, negsuc}
 use lib.ListN.{replicate}
 use Rattle.whole.specs.Division.{count, pieces}
@@ -24,7 +23,7 @@ use Rattle.state.specs.Modal.{atStart, codeIn, motionBy, blockMotion, keep, shi
 use Rattle.state.specs.Next.{flowBy, nextOf}
 use Rattle.state.specs.Target.{pairOf, correctionPair, offsetOf, sent, targetX, targetZ}
 use Rattle.state.specs.declared.modal.State.{State}
-use Rattle.state.specs.declared.next.Next.the-variants.{On, End}
+use Rattle.state.specs.declared.next.Next.the-variants.{End}
 use Rattle.deeds.specs.Deed.{hasPath, isFacing, cycleOf, moveOf, deedOf}
 use Rattle.deeds.specs.Judge.{isTraverse, isRapid, feedWrong, lengthWrong, endsOutside, deedRecords, isNowhere, alarmOf}
 use Rattle.machine.specs.declared.run.Settings.{Settings}

@@ -2,7 +2,7 @@
 -- Assumes nothing.
 use mathlib.Core.Path.{_≡_, refl, sym, ap, _∙_, subst}
 use mathlib.Core.Bool.{Bool, true, false, cond, _&&_}
-use mathlib.Core.List.{List, [], _∷_, _++_, append-assoc}
+use mathlib.Core.List.{List, _++_, append-assoc}
 use Prim.Native.Nat.{ℕ, _+_}
 use native.Mathlib.Omega.{arith}
 use lib.Dec.{T, eqb}
@@ -13,7 +13,6 @@ use Rattle.moves.specs.declared.record.Record.{Record}
 use Rattle.block.specs.Codes.{gCode}
 use Rattle.block.specs.Rules.{has, groupZeroIs}
 use Rattle.block.specs.Words.{mFirst, gFirst}
-use Rattle.block.specs.declared.codes.Code.{Code}
 use Rattle.block.specs.declared.codes.Motion.the-variants as motion
 use Rattle.block.specs.declared.words.Block.{Block}
 use Rattle.cycles.specs.Goes.{inwardOf, acrossOf}
@@ -24,7 +23,6 @@ use Rattle.state.specs.declared.modal.State.{State}
 use Rattle.deeds.specs.Deed.{isFacing, cycleOf, moveOf, deedOf}
 use Rattle.deeds.specs.declared.deed.Deed.{Deed}
 use Rattle.deeds.specs.declared.deed.Deed.the-variants as deed
-use Rattle.deeds.specs.declared.deed.Sending.{Sending}
 use Rattle.deeds.proofs.Judging.{lengths-turn}
 use Rattle.turning.specs.Turned.{Turned}
 use Rattle.turning.specs.Turning.{turning}

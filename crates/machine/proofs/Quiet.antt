@@ -1,16 +1,15 @@
 -- Demand 3 of a row of records with others around it: records before the cycle that are no feeds and stand at its start, and records behind it that are no feeds, change nothing.
 -- Assumes nothing.
 use mathlib.Core.Path.{_≡_, refl, sym, ap, _∙_, subst}
-use mathlib.Core.Bool.{Bool, true, false, cond, _&&_}
+use mathlib.Core.Bool.{cond, _&&_}
 use mathlib.Core.List.{List, [], _∷_, _++_}
-use Prim.Native.Nat.{ℕ, _<_}
 use lib.Dec.{ltb, eqb}
-use lib.IntN.{ℤ, pos, _-ℤ_, natAbs}
+use lib.IntN.{ℤ, _-ℤ_, natAbs}
 use borrow.Author.Tests.{ne-eqb}
 use Rattle.moves.specs.declared.record.Record.{Record}
 use Rattle.cycles.specs.Axis.{side, net}
 use Rattle.cycles.specs.Goes.{inwardOf, acrossOf}
-use Rattle.turning.specs.Turned.{feedKind, passLines, eachDepth, depths, Depths, Feeds, FeedsWithin, Turned}
+use Rattle.turning.specs.Turned.{feedKind, passLines, eachDepth, depths, Depths, FeedsWithin, Turned}
 use Rattle.turning.specs.declared.cycle.Cycle.{Cycle}
 
 -- a record that is no feed and stands where the cycle starts

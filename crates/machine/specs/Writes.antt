@@ -1,6 +1,6 @@
 -- 01: "Records of a block, in order: speed if S, tool if T, M of group 0, M of group 3, motion or dwell, then M00 or M30. M17 gives none." Records before the move carry the position
 -- before it; M00 and M30 the one after.
-use mathlib.Core.Bool.{Bool, true, false, cond, not, _&&_}
+use mathlib.Core.Bool.{Bool, false, cond, not, _&&_}
 use mathlib.Core.List.{List, [], _∷_, _++_}
 use Prim.Native.Nat.{ℕ, _+_}
 use lib.Dec.{eqb}

@@ -2,16 +2,16 @@
 -- Assumes nothing.
 use mathlib.Core.Path.{_≡_, refl, sym, ap, _∙_}
 use mathlib.Core.List.{List, [], _∷_, _++_, append-assoc}
-use Prim.Native.Nat.{ℕ, zero, suc, _+_, _*_, _/_, _%_, _<_, _≤_, _^_}
+use Prim.Native.Nat.{ℕ, _+_, _*_, _/_, _%_}
 use native.Mathlib.Omega.{arith}
-use lib.ListN.{length, getD, take, drop, length-append}
+use lib.ListN.{length, take, drop, length-append}
 use lib.Seq.{take-at, drop-at}
 use Rattle.whole.specs.Bytes.{littleEndian, valueOf, signedBytes, signedOf}
 use Rattle.whole.proofs.LittleEndian.{length-little, length-signed, read-back, signed-read-back}
 use Rattle.moves.specs.declared.record.Record.{Record}
 use Rattle.moves.specs.Kinds.{flagged}
-use Rattle.moves.specs.Form.{headerSize, recordSize, recordLimit, recordStart, headerBytes, recordBytes, rowBytes, listBytes, Fitting, AllFitting, LawfulList}
-use Rattle.moves.specs.Reading.{numberAt, recordIn, rowIn, recordsIn, countIn, listIn}
+use Rattle.moves.specs.Form.{headerSize, recordSize, recordStart, headerBytes, recordBytes, rowBytes, listBytes, Fitting, AllFitting, LawfulList}
+use Rattle.moves.specs.Reading.{numberAt, recordIn, rowIn, recordsIn, listIn}
 
 -- ---- lengths
 pub length-record : (r : Record) → length (recordBytes r) ≡ recordSize

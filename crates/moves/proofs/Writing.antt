@@ -1,12 +1,12 @@
 -- What the stores of a record and of a header leave in the buffer.
 -- Assumes nothing.
-use mathlib.Core.Path.{_≡_, refl, sym, ap, _∙_}
+use mathlib.Core.Path.{_≡_, refl, ap, _∙_}
 use mathlib.Core.List.{List, [], _∷_, _++_, append-assoc}
 use Prim.Native.Nat.{ℕ, _+_, _≤_}
 use native.Mathlib.Omega.{arith}
 use lib.ListN.{length, getD, length-append}
 use Rattle.whole.specs.Bytes.{littleEndian, signedBytes, laid}
-use Rattle.whole.proofs.LittleEndian.{length-little, length-signed}
+use Rattle.whole.proofs.LittleEndian.{length-signed}
 use Rattle.whole.proofs.Laying.{laid-on}
 use Rattle.moves.specs.declared.record.Record.{Record}
 use Rattle.moves.specs.Form.{version, headerBytes, recordBytes}

@@ -2,16 +2,16 @@
 -- Assumes nothing.
 use mathlib.Core.Path.{_≡_, refl, sym, ap, _∙_, subst}
 use mathlib.Core.Bool.{Bool, true, false, cond, _||_}
-use mathlib.Core.List.{List, [], _∷_}
-use Prim.Native.Nat.{ℕ, zero, suc, _+_, _-_, _≤_, _<_, zero-le}
+use mathlib.Core.List.{List}
+use Prim.Native.Nat.{ℕ, zero, suc, _+_, _-_, _≤_, _<_}
 use native.Mathlib.Omega.{arith}
-use lib.Dec.{T, eqb, ltb, leb, eqb→eq}
-use lib.ListN.{length, getD, set, take, drop, replicate, length-set, length-replicate, getD-replicate}
+use lib.Dec.{T, eqb, eqb→eq}
+use lib.ListN.{length, getD, set, take, drop, replicate, length-set, length-replicate}
 use lib.Seq.{getD-set-same, getD-set-other}
 use borrow.Author.Tests.{eq-eqb, ne-eqb, lt-ltb, le-ltb, le-leb, lt-leb}
 use Rattle.alarms.specs.Numbers.{badLineStart, tooManyBlocks, wordRules}
 use Rattle.tape.specs.Letters.{among}
-use Rattle.tape.specs.Lines.{lineAt, LineIn, Text, textAt, lines}
+use Rattle.tape.specs.Lines.{lineAt, lines}
 use Rattle.tape.specs.declared.line.Line.{Line}
 use Rattle.tape.proofs.Lining.{lines-more, lines-end}
 use Rattle.block.specs.Rules.{judged}
@@ -20,7 +20,7 @@ use Rattle.block.specs.declared.words.Head.{Head}
 use Rattle.block.specs.declared.words.Head.the-variants.{Blank, ProgramLine, BlockLine, Other}
 use Rattle.reading.specs.declared.read.Read.{Read}
 use Rattle.reading.specs.declared.read.Read.the-variants.{Whole, Alarm}
-use Rattle.reading.specs.Reading.{History, nothingRead, headAlarm, lineAlarm, noted, endsWith, afterLine, readLines}
+use Rattle.reading.specs.Reading.{History, nothingRead, headAlarm, lineAlarm, noted, endsWith, readLines}
 
 -- what reading the lines of a tape from `first` on gives
 abbrev pub whole : List ℕ → ℕ → Read

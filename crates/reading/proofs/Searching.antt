@@ -9,23 +9,17 @@ use Rattle.tape.specs.Lines.{lineAt, lines}
 use Rattle.tape.proofs.Lining.{lines-end, lines-more}
 use Rattle.block.specs.Words.{headOf}
 use Rattle.block.specs.declared.words.Head.{Head}
+use Rattle.reading.specs.declared.find.Here.{Here}
+use Rattle.reading.specs.declared.find.Sought.{Sought}
 use Rattle.reading.specs.declared.find.Found.the-variants.{Nowhere}
-use Rattle.reading.specs.Finding.{programAt, findProgram, blockAt, findBlock}
+use Rattle.reading.specs.Finding.{hereOf, foundBy, seekLine}
 
-module _ (n : ℕ) (s : List ℕ) (p : ℕ) where
-  pub program-end : length s ≤ p → findProgram n (lines s p) ≡ Nowhere
-  unfolding findProgram
-  program-end h = rw (lines-end s p h)
+module _ (w : Sought) (s : List ℕ) (p : ℕ) where
+  pub seek-end : length s ≤ p → seekLine w (lines s p) ≡ Nowhere
+  unfolding seekLine
+  seek-end h = rw (lines-end s p h)
 
-  pub block-end : length s ≤ p → findBlock n (lines s p) ≡ Nowhere
-  unfolding findBlock
-  block-end h = rw (lines-end s p h)
-
-  module _ (h : p < length s) {r : Line} (e : r ≡ lineAt s p) {k : Head} (f : k ≡ headOf (take (r .stop - p) (drop p s))) where
-    pub program-more : findProgram n (lines s p) ≡ programAt n k p (findProgram n (lines s (r .after)))
-    unfolding findProgram
-    program-more = rw (f, e, lines-more s p h)
-
-    pub block-more : findBlock n (lines s p) ≡ blockAt n k p (findBlock n (lines s (r .after)))
-    unfolding findBlock
-    block-more = rw (f, e, lines-more s p h)
+  pub seek-more : p < length s → {r : Line} → r ≡ lineAt s p → {k : Head} → k ≡ headOf (take (r .stop - p) (drop p s)) → {h : Here} → h ≡ hereOf w k
+      → seekLine w (lines s p) ≡ foundBy h p (seekLine w (lines s (r .after)))
+  unfolding seekLine
+  seek-more l e f g = rw (g, f, e, lines-more s p l)

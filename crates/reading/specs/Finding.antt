@@ -1,5 +1,5 @@
--- 01, alarm 10: "main missing; called number .. missing", and "G27 goes to the block numbered L of the same program", alarm 11. A program ends where the next one
--- begins or where the lines end.
+-- Searches along the lines of a tape. 01: "Running a program runs its blocks"; alarm 10: "main missing; called number .. missing"; "G27 goes to the block numbered L of the same program",
+-- alarm 11. A program ends where the next one begins or where the lines end.
 use mathlib.Core.Bool.{cond}
 use mathlib.Core.List.{List, [], _∷_}
 use Prim.Native.Nat.{ℕ}
@@ -8,33 +8,48 @@ use Rattle.tape.specs.Lines.{Text, lineAt, lines}
 use Rattle.block.specs.Words.{headOf}
 use Rattle.block.specs.declared.words.Head.{Head}
 use Rattle.block.specs.declared.words.Head.the-variants.{Blank, ProgramLine, BlockLine, Other}
+use Rattle.reading.specs.declared.find.Here.{Here}
+use Rattle.reading.specs.declared.find.Here.the-variants.{Is, Ends, On}
+use Rattle.reading.specs.declared.find.Sought.{Sought}
+use Rattle.reading.specs.declared.find.Sought.the-variants.{Program, Block, AnyBlock}
 use Rattle.reading.specs.declared.find.Found.{Found}
 use Rattle.reading.specs.declared.find.Found.the-variants.{At, Nowhere}
 
--- one line of a search for the program n, with what the lines behind it give
-unfoldable pub programAt : ℕ → Head → ℕ → Found → Found
-programAt n (ProgramLine k) place rest = cond (eqb k n) (At place) rest
-programAt n (BlockLine k) place rest = rest
-programAt n Blank place rest = rest
-programAt n Other place rest = rest
+-- what a line is to a search, by how it begins: the one that is sought, one that ends the search, or one to be passed. A search for a block ends with its program. (A line that was read begins
+-- with no other word.)
+unfoldable pub hereOf : Sought → Head → Here
+hereOf (Program n) (ProgramLine k) = cond (eqb k n) Is On
+hereOf (Program n) (BlockLine k) = On
+hereOf (Program n) Blank = On
+hereOf (Program n) Other = On
+hereOf (Block n) (ProgramLine k) = Ends
+hereOf (Block n) (BlockLine k) = cond (eqb k n) Is On
+hereOf (Block n) Blank = On
+hereOf (Block n) Other = On
+hereOf AnyBlock (ProgramLine k) = Ends
+hereOf AnyBlock (BlockLine k) = Is
+hereOf AnyBlock Blank = On
+hereOf AnyBlock Other = On
 
--- the place of the line of the program n among some lines
-unfoldable pub findProgram : ℕ → List Text → Found
-findProgram n [] = Nowhere
-findProgram n (t ∷ ts) = programAt n (headOf (t .bytes)) (t .place) (findProgram n ts)
+-- one line, with what the lines behind it give
+unfoldable pub foundBy : Here → ℕ → Found → Found
+foundBy Is place rest = At place
+foundBy Ends place rest = Nowhere
+foundBy On place rest = rest
 
--- one line of a search for the block n: the program's end ends it
-unfoldable pub blockAt : ℕ → Head → ℕ → Found → Found
-blockAt n (ProgramLine k) place rest = Nowhere
-blockAt n (BlockLine k) place rest = cond (eqb k n) (At place) rest
-blockAt n Blank place rest = rest
-blockAt n Other place rest = rest
+-- the place of the line that is sought among some lines
+unfoldable pub seekLine : Sought → List Text → Found
+seekLine w [] = Nowhere
+seekLine w (t ∷ ts) = foundBy (hereOf w (headOf (t .bytes))) (t .place) (seekLine w ts)
 
--- the place of the block n among some lines, up to the next program line
-unfoldable pub findBlock : ℕ → List Text → Found
-findBlock n [] = Nowhere
-findBlock n (t ∷ ts) = blockAt n (headOf (t .bytes)) (t .place) (findBlock n ts)
+-- the line of the program n
+abbrev pub findProgram : ℕ → List Text → Found
+findProgram n ts = seekLine (Program n) ts
+
+-- the next block line of a program
+abbrev pub firstBlock : List Text → Found
+firstBlock ts = seekLine AnyBlock ts
 
 -- the place of the block n of the program whose line stands at `program`: all lines behind the program line are searched
 unfoldable pub blockOfProgram : ℕ → List ℕ → ℕ → Found
-blockOfProgram n tape program = findBlock n (lines tape (lineAt tape program .after))
+blockOfProgram n tape program = seekLine (Block n) (lines tape (lineAt tape program .after))

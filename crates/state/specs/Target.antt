@@ -1,7 +1,7 @@
 -- 01: "Offset table: 208 signed numbers, pairs of X then Z, for shifts 1 to 5 and then tool corrections 1 to 99". "Offset = shift of group 3 + shift of group 5 + tool
 -- correction." "Target of X or Z = word + offset. Target of U or W = present machine position + word (U doubled). An axis without a word stays at its machine position."
 use mathlib.Core.Path.{_≡_}
-use mathlib.Core.Bool.{Bool, true, cond}
+use mathlib.Core.Bool.{true, cond}
 use mathlib.Core.List.{List}
 use Prim.Native.Nat.{ℕ, _+_, _-_, _*_, _≤_}
 use lib.Dec.{eqb}

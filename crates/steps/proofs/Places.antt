@@ -18,16 +18,18 @@ use Rattle.block.specs.declared.codes.Code.the-variants as code
 use Rattle.block.specs.declared.codes.Flow.the-variants as flow
 use Rattle.block.specs.declared.codes.Meaning.the-variants as means
 use Rattle.block.specs.declared.words.Block.{Block}
-use Rattle.block.specs.declared.words.Head.{Head}
-use Rattle.block.specs.declared.words.Head.the-variants.{Blank, ProgramLine, BlockLine, Other}
-use Rattle.reading.specs.Finding.{programAt, findProgram, blockAt, findBlock, blockOfProgram}
+use Rattle.reading.specs.Finding.{hereOf, foundBy, seekLine, findProgram, firstBlock, blockOfProgram}
+use Rattle.reading.specs.declared.find.Here.{Here}
+use Rattle.reading.specs.declared.find.Here.the-variants as here
+use Rattle.reading.specs.declared.find.Sought.{Sought}
+use Rattle.reading.specs.declared.find.Sought.the-variants.{Program, Block as OfNumber, AnyBlock}
 use Rattle.reading.specs.declared.find.Found.{Found}
 use Rattle.reading.specs.declared.find.Found.the-variants.{At, Nowhere}
 use Rattle.state.specs.Modal.{codeIn}
 use Rattle.state.specs.Next.{steered, flowBy, nextOf}
 use Rattle.state.specs.declared.next.Next.{Next}
 use Rattle.state.specs.declared.next.Next.the-variants as next
-use Rattle.steps.specs.Ahead.{blockHere, firstBlock, mostCalls, calledAt, jumpedTo, lookedUp}
+use Rattle.steps.specs.Ahead.{mostCalls, calledAt, jumpedTo, lookedUp}
 use Rattle.steps.specs.Steps.{stopBy}
 use Rattle.steps.specs.declared.ahead.What.{What}
 use Rattle.steps.specs.declared.ahead.What.the-variants.{On, Call, Jump, Return, End, Stop}
@@ -51,51 +53,29 @@ abbrev pub FoundIn : ℕ → Found → Type 0
 FoundIn n (At p) = p < n
 FoundIn n Nowhere = Unit {0}
 
-program-here : (m n : ℕ) (k : Head) (p : ℕ) (f : Found) → p < m → FoundIn m f → FoundIn m (programAt n k p f)
-unfolding programAt
-program-here m n (ProgramLine k) p f h g = cond-ind (FoundIn m) (eqb k n) (At p) f (λ _. h) g
-program-here m n (BlockLine k) p f h g = g
-program-here m n Blank p f h g = g
-program-here m n Other p f h g = g
+found-here : (m : ℕ) (h : Here) (p : ℕ) (f : Found) → p < m → FoundIn m f → FoundIn m (foundBy h p f)
+unfolding foundBy
+found-here m here.Is p f h g = h
+found-here m here.Ends p f h g = tt
+found-here m here.On p f h g = g
 
-program-in : (m n : ℕ) (ts : List Text) → AllIn m ts → FoundIn m (findProgram n ts)
-unfolding findProgram
-program-in m n [] a = tt
-program-in m n (t ∷ ts) a = program-here m n (headOf (t .bytes)) (t .place) (findProgram n ts) (a .0) (program-in m n ts (a .1))
+seek-in : (m : ℕ) (w : Sought) (ts : List Text) → AllIn m ts → FoundIn m (seekLine w ts)
+unfolding seekLine
+seek-in m w [] a = tt
+seek-in m w (t ∷ ts) a = found-here m (hereOf w (headOf (t .bytes))) (t .place) (seekLine w ts) (a .0) (seek-in m w ts (a .1))
 
-block-here : (m n : ℕ) (k : Head) (p : ℕ) (f : Found) → p < m → FoundIn m f → FoundIn m (blockAt n k p f)
-unfolding blockAt
-block-here m n (ProgramLine k) p f h g = tt
-block-here m n (BlockLine k) p f h g = cond-ind (FoundIn m) (eqb k n) (At p) f (λ _. h) g
-block-here m n Blank p f h g = g
-block-here m n Other p f h g = g
-
-block-in : (m n : ℕ) (ts : List Text) → AllIn m ts → FoundIn m (findBlock n ts)
-unfolding findBlock
-block-in m n [] a = tt
-block-in m n (t ∷ ts) a = block-here m n (headOf (t .bytes)) (t .place) (findBlock n ts) (a .0) (block-in m n ts (a .1))
-
-first-here : (m : ℕ) (k : Head) (p : ℕ) (f : Found) → p < m → FoundIn m f → FoundIn m (blockHere k p f)
-unfolding blockHere
-first-here m (ProgramLine k) p f h g = tt
-first-here m (BlockLine k) p f h g = h
-first-here m Blank p f h g = g
-first-here m Other p f h g = g
-
-first-in : (m : ℕ) (ts : List Text) → AllIn m ts → FoundIn m (firstBlock ts)
-unfolding firstBlock
-first-in m [] a = tt
-first-in m (t ∷ ts) a = first-here m (headOf (t .bytes)) (t .place) (firstBlock ts) (a .0) (first-in m ts (a .1))
+pub sought-on : (w : Sought) (tape : List ℕ) (p : ℕ) → FoundIn (length tape) (seekLine w (lines tape p))
+sought-on w tape p = seek-in (length tape) w (lines tape p) (lines-in tape p)
 
 pub program-on : (n : ℕ) (tape : List ℕ) (p : ℕ) → FoundIn (length tape) (findProgram n (lines tape p))
-program-on n tape p = program-in (length tape) n (lines tape p) (lines-in tape p)
+program-on n tape p = sought-on (Program n) tape p
 
-pub block-on : (n : ℕ) (tape : List ℕ) (program : ℕ) → FoundIn (length tape) (blockOfProgram n tape program)
+block-on : (n : ℕ) (tape : List ℕ) (program : ℕ) → FoundIn (length tape) (blockOfProgram n tape program)
 unfolding blockOfProgram
-block-on n tape program = let p = lineAt tape program .after in block-in (length tape) n (lines tape p) (lines-in tape p)
+block-on n tape program = sought-on (OfNumber n) tape (lineAt tape program .after)
 
 pub first-on : (tape : List ℕ) (p : ℕ) → FoundIn (length tape) (firstBlock (lines tape p))
-first-on tape p = first-in (length tape) (lines tape p) (lines-in tape p)
+first-on tape p = sought-on AnyBlock tape p
 
 -- ---- a block by itself stops nothing
 abbrev Going : Next → Type 0

@@ -22,6 +22,7 @@ use Rattle.block.specs.Words.{noWords, gather, lineOf}
 use Rattle.block.specs.Worded.{Worded}
 use Rattle.block.specs.declared.words.Block.{Block}
 use Rattle.block.proofs.Worded.{worded}
+use Rattle.reading.specs.Finding.{firstBlock}
 use Rattle.reading.specs.declared.find.Found.{Found}
 use Rattle.reading.specs.declared.find.Found.the-variants.{At, Nowhere}
 use Rattle.state.specs.Next.{nextOf}
@@ -35,7 +36,7 @@ use Rattle.steps.specs.declared.ahead.What.{What}
 use Rattle.steps.specs.declared.ahead.What.the-variants.{On, Call, Jump, Return, End, Stop}
 use Rattle.steps.specs.declared.step.Run.{Run}
 use Rattle.steps.specs.declared.step.Did.{Did}
-use Rattle.steps.specs.Ahead.{firstBlock, lookedUp}
+use Rattle.steps.specs.Ahead.{lookedUp}
 use Rattle.steps.specs.Steps.{Task, blockIn, blockOn, whatBy, whatOf, alarmBy, stopBy, alarmAt, runAfter, didAt, recordsAt, Fit, Needs, Goes, Wrote, Taken, takenBy, takenFrom, StepMeets, BlockMeets}
 use Rattle.steps.proofs.Places.{FoundIn, first-on, WhatOn, looked-on, no-stop}
 

@@ -1,14 +1,11 @@
 -- What lies ahead of a block. 01: "Running a program runs its blocks". "At most ten calls deep. M17 returns. G27 goes to the block numbered L of the same program." Alarms: 14 "M17 in the main
 -- program, M30 in a subprogram, program ends without either", 10 "called number outside lowest subroutine to 255 (001: alarm 630) or missing", 11 "jump target missing", 12 "eleventh call deep".
 use mathlib.Core.Bool.{cond, _||_}
-use mathlib.Core.List.{List, [], _∷_}
+use mathlib.Core.List.{List}
 use Prim.Native.Nat.{ℕ}
 use lib.Dec.{ltb, eqb}
 use Rattle.alarms.specs.Numbers.{programMissing, blockMissing, tooDeep, wrongEnd}
-use Rattle.tape.specs.Lines.{Text, lines}
-use Rattle.block.specs.Words.{headOf}
-use Rattle.block.specs.declared.words.Head.{Head}
-use Rattle.block.specs.declared.words.Head.the-variants.{Blank, ProgramLine, BlockLine, Other}
+use Rattle.tape.specs.Lines.{lines}
 use Rattle.reading.specs.Finding.{findProgram, blockOfProgram}
 use Rattle.reading.specs.declared.find.Found.{Found}
 use Rattle.reading.specs.declared.find.Found.the-variants.{At, Nowhere}
@@ -17,20 +14,6 @@ use Rattle.state.specs.declared.next.Next.the-variants as next
 use Rattle.steps.specs.declared.ahead.What.{What}
 use Rattle.steps.specs.declared.ahead.What.the-variants.{On, Call, Jump, Return, End, Stop}
 
--- ---- the next block of a program
--- one line, with what the lines behind it give: the program's end ends it. (A line that was read begins with no other word.)
-unfoldable pub blockHere : Head → ℕ → Found → Found
-blockHere (ProgramLine n) place rest = Nowhere
-blockHere (BlockLine n) place rest = At place
-blockHere Blank place rest = rest
-blockHere Other place rest = rest
-
--- the place of the first block line among some lines, up to the next program line
-unfoldable pub firstBlock : List Text → Found
-firstBlock [] = Nowhere
-firstBlock (t ∷ ts) = blockHere (headOf (t .bytes)) (t .place) (firstBlock ts)
-
--- ---- what a block asks for
 -- "At most ten calls deep": the main program has ten calls left
 abbrev pub mostCalls : ℕ
 mostCalls = 10

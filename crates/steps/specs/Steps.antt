@@ -15,6 +15,7 @@ use Rattle.tape.specs.Lines.{textAt, lines}
 use Rattle.block.specs.Rules.{longestLine}
 use Rattle.block.specs.Words.{noWords, lineOf}
 use Rattle.block.specs.declared.words.Block.{Block}
+use Rattle.reading.specs.Finding.{firstBlock}
 use Rattle.reading.specs.declared.find.Found.{Found}
 use Rattle.reading.specs.declared.find.Found.the-variants.{At, Nowhere}
 use Rattle.state.specs.Next.{nextOf}
@@ -24,7 +25,7 @@ use Rattle.state.specs.declared.next.Next.the-variants as next
 use Rattle.machine.specs.Blocks.{alarmIn, doneRecords, doneState}
 use Rattle.machine.specs.Known.{InRange}
 use Rattle.machine.specs.declared.run.Settings.{Settings}
-use Rattle.steps.specs.Ahead.{firstBlock, lookedUp}
+use Rattle.steps.specs.Ahead.{lookedUp}
 use Rattle.steps.specs.declared.ahead.What.{What}
 use Rattle.steps.specs.declared.ahead.What.the-variants.{On, Call, Jump, Return, End, Stop}
 use Rattle.steps.specs.declared.step.Run.{Run}

@@ -1,12 +1,10 @@
-// What lies ahead of a block: the next block line of its program, and the places that a call or a jump asks for.
-use block::words::Head;
+// What lies ahead of a block: the places that a call or a jump asks for.
 use reading::find::Found;
 use state::next::Next;
 ghost use mathlib.Core.Path.{_≡_};
 ghost use Prim.Native.Nat.{_≤_};
 ghost use lib.ListN.{length};
-ghost use Rattle.tape.specs.Lines.{lines};
-ghost use Rattle.steps.specs.Ahead.{firstBlock, calledAt, jumpedTo, lookedUp};
+ghost use Rattle.steps.specs.Ahead.{calledAt, jumpedTo, lookedUp};
 
 // "At most ten calls deep": the calls that are left in the main program.
 pub const MOST_CALLS: u32 = 10;
@@ -23,34 +21,6 @@ pub enum What {
     Return,
     End,
     Stop(u8, usize),
-}
-
-// The next block line from the line at `from` on, or none where the program ends before.
-pub fn next_block(tape: &[u8], from: usize) -> Found
-    requires { ⌜ from ≤ length (now tape) ⌝ }
-    ensures { λ r. ⌜ r ≡ firstBlock (lines (now (tape .entry)) from) ⌝ }
-{
-    let mut p = from;
-    let r = loop {
-        if p >= tape.len() {
-            break Found::Nowhere;
-        }
-        let line = tape::line::line_at(tape, p);
-        let stop = line.stop;
-        let head = block::words::head_of(&tape[p..stop]);
-        match head {
-            Head::ProgramLine(_) => {
-                break Found::Nowhere;
-            }
-            Head::BlockLine(_) => {
-                break Found::At(p);
-            }
-            Head::Blank => {}
-            Head::Other => {}
-        }
-        p = line.after;
-    };
-    r
 }
 
 // The call of a program that was looked for, by the block at `at`.

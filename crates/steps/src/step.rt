@@ -153,7 +153,7 @@ pub fn take_step(
     requires { ⌜ Needs (taskOf (now tape) (now table) set first (length (now buf))) (length (now buf)) program from run ⌝ }
     ensures { λ r. ⌜ StepMeets (taskOf (now (tape .entry)) (now (table .entry)) set first (length (now (buf .entry)))) (now (buf .entry)) program calls from run r (now (buf .exit)) ⌝ }
 {
-    let found = crate::ahead::next_block(tape, from);
+    let found = reading::find::next_block(tape, from);
     match found {
         Found::Nowhere => Did {
             what: What::Stop(alarms::WRONG_END, program),

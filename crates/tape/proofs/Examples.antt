@@ -2,11 +2,11 @@
 -- Assumes nothing.
 use mathlib.Core.Path.{_≡_, refl}
 use mathlib.Core.Bool.{Bool, true, false}
-use mathlib.Core.List.{List, [], _∷_}
+use mathlib.Core.List.{[], _∷_}
 use Prim.Native.Nat.{ℕ}
-use lib.IntN.{ℤ, pos, negsuc}
+use lib.IntN.{ℤ, pos}
 use Rattle.tape.specs.declared.word.Next.{Next}
-use Rattle.tape.specs.declared.word.Next.the-variants.{Word, End, Fault}
+use Rattle.tape.specs.declared.word.Next.the-variants.{Word, Fault}
 use Rattle.tape.specs.Letters.{letterD, letterG, letterX}
 use Rattle.tape.specs.Lines.{seek, gapOf}
 use Rattle.tape.specs.Numbers.{digitsOf, unsignedPath, pathOf, digitsIn, numberOf}

@@ -1,7 +1,7 @@
 -- How many records a turning cycle has, and that their numbers fit.
 -- Assumes nothing.
 use mathlib.Core.Path.{_≡_, refl, sym, ap, _∙_, subst}
-use mathlib.Core.Bool.{Bool, true, false}
+use mathlib.Core.Bool.{Bool}
 use mathlib.Core.List.{List, [], _∷_, _++_}
 use Prim.Native.Nat.{ℕ, zero, suc, _+_, _-_, _*_, _<_, _≤_, _^_}
 use native.Mathlib.Nat.{div-le-self}
@@ -17,10 +17,9 @@ use Rattle.whole.specs.Division.{sum}
 use Rattle.whole.proofs.Sides.{along-add, along-zero}
 use Rattle.whole.proofs.Divisions.{count-is, pieces-length, pieces-sum}
 use Rattle.whole.proofs.Integers.{whole, range, sub-in, abs}
-use Rattle.moves.specs.Form.{Fitting, AllFitting}
+use Rattle.moves.specs.Form.{AllFitting}
 use Rattle.cycles.specs.declared.axis.Axis.{Axis}
 use Rattle.cycles.specs.Axis.{side, net, allowanceLine}
-use Rattle.cycles.specs.Goes.{rapidTo, feedTo}
 use Rattle.cycles.proofs.Fitting.{rapid-fitting, feed-fitting}
 use Rattle.cycles.proofs.Axes.{line-net, line-fits}
 use Rattle.turning.specs.declared.cycle.Cycle.{Cycle}

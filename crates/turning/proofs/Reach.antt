@@ -2,12 +2,11 @@
 -- Every record lies between these two, and both are ends of moves.
 -- Assumes nothing.
 use mathlib.Core.Path.{_≡_, refl, sym, ap, _∙_, subst}
-use mathlib.Core.Bool.{Bool, true, false, cond, _||_}
+use mathlib.Core.Bool.{Bool, false, _||_}
 use mathlib.Core.List.{List, [], _∷_, _++_}
 use Prim.Native.Nat.{ℕ, _+_, _<_, _≤_}
 use native.Mathlib.Nat.{add-zero}
 use native.Mathlib.Omega.{arith}
-use lib.Dec.{T}
 use lib.IntN.{ℤ, _+ℤ_}
 use lib.ListN.{length}
 use Rattle.whole.specs.declared.signed.Side.{Side}
@@ -16,14 +15,12 @@ use Rattle.whole.specs.Division.{sum}
 use Rattle.whole.proofs.Sides.{along-add, along-zero}
 use Rattle.whole.proofs.Divisions.{pieces-length, pieces-sum}
 use Rattle.moves.specs.declared.record.Record.{Record}
-use Rattle.cycles.specs.declared.limits.Span.{Span}
 use Rattle.cycles.specs.declared.limits.Limits.{Limits}
 use Rattle.cycles.specs.Axis.{side, net, allowanceLine}
-use Rattle.cycles.specs.Goes.{rapidTo, feedTo}
-use Rattle.cycles.specs.Limits.{outsideSpan, outside, outsideTo, anyOutside}
+use Rattle.cycles.specs.Limits.{outsideSpan, outsideTo, anyOutside}
 use Rattle.cycles.proofs.Axes.{line-net}
 use Rattle.cycles.proofs.Reaching.{span-between}
-use Rattle.cycles.proofs.Places.{alike, neither, both, inSpan, acrossSpan, Within, within, not-outside, rapid-ends, feed-ends}
+use Rattle.cycles.proofs.Places.{alike, neither, both, inSpan, acrossSpan, within, not-outside, rapid-ends, feed-ends}
 use Rattle.turning.specs.declared.cycle.Cycle.{Cycle}
 use Rattle.turning.specs.declared.passes.Pass.{Pass}
 use Rattle.turning.specs.Turning.{passCount, row, passFor, passOn, passes, turning}

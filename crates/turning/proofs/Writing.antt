@@ -16,11 +16,11 @@ use Rattle.whole.specs.Division.{pieces, lineAfter}
 use Rattle.whole.specs.Bytes.{laid}
 use Rattle.whole.proofs.Sides.{along-add, along-zero, between}
 use Rattle.whole.proofs.Divisions.{pieces-length, line-first, line-next, line-within}
-use Rattle.whole.proofs.Laying.{laid-nil, laid-on, length-laid}
+use Rattle.whole.proofs.Laying.{laid-nil, length-laid}
 use Rattle.moves.specs.declared.record.Record.{Record}
 use Rattle.moves.specs.Form.{recordStart, recordBytes, rowBytes}
 use Rattle.moves.proofs.Rows.{row-on, row-one}
-use Rattle.moves.proofs.OneReading.{length-row, row-append}
+use Rattle.moves.proofs.OneReading.{length-row}
 use Rattle.cycles.specs.Axis.{side, net, allowanceLine}
 use Rattle.cycles.specs.Goes.{rapidTo, feedTo}
 use Rattle.turning.specs.declared.cycle.Cycle.{Cycle}

@@ -2,7 +2,7 @@
 -- records are made. "The pass depths add up exactly to the infeed less the allowance, none is above the division, no row within the division with that sum is shorter, none equally
 -- short has a smaller greatest depth. With or without a division no feed move of the cycle goes past the allowance in either axis."
 use mathlib.Core.Path.{_≡_}
-use mathlib.Core.Bool.{Bool, true, cond, _&&_, _||_}
+use mathlib.Core.Bool.{true, cond, _&&_, _||_}
 use mathlib.Core.List.{List, [], _∷_, map}
 use Prim.Native.Nat.{ℕ, _<_}
 use lib.Dec.{ltb, eqb}

@@ -1,6 +1,6 @@
 -- The even division: its pieces make the length, none is above the greatest piece, no row is shorter, and none as short has a smaller greatest piece.
 -- Assumes nothing.
-use mathlib.Core.Path.{_≡_, refl, sym, ap, _∙_, subst}
+use mathlib.Core.Path.{_≡_, refl, ap, _∙_, subst}
 use mathlib.Core.List.{List, [], _∷_, _++_}
 use Prim.Native.Nat.{ℕ, zero, suc, _+_, _-_, _*_, _/_, _%_, _≤_, _<_, min, max, zero-le}
 use native.Mathlib.Nat.{mul-le-mul-left, div-le-of-le-mul, div-lt-iff-lt-mul, lt-mul-div-succ, div-add-mod, mod-lt, add-div-right}

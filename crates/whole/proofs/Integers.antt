@@ -2,12 +2,12 @@
 -- up z is z where z is positive, else 0; down z is -z where z is negative, else 0: z = up z - down z.
 use mathlib.Core.Path.{_≡_, refl, sym, ap, _∙_, subst}
 use mathlib.Core.Bool.{Bool, true, false, not, cond}
-use Prim.Native.Nat.{ℕ, zero, suc, pred, _+_, _-_, _*_, _/_, _%_, _≤_, _<_, _^_, min, max}
+use Prim.Native.Nat.{ℕ, zero, suc, _+_, _-_, _*_, _≤_, _<_, _^_, min, max}
 use native.Mathlib.Omega.{arith}
-use native.Mathlib.Nat.{mul-zero, zero-div, zero-mod, mul-le-mul}
-use lib.Dec.{T, ltb, leb, ltb→lt, nltb→le}
+use native.Mathlib.Nat.{mul-zero, mul-le-mul}
+use lib.Dec.{T, ltb, ltb→lt, nltb→le}
 use lib.IntN.{ℤ, pos, negsuc, negℤ, natAbs, subℕ, _+ℤ_, _-ℤ_, _*ℤ_}
-use lib.Signed.{mag, ltZ, leZ, nonNeg, quotZ, remZ, _≤ℤ_, _<ℤ_}
+use lib.Signed.{ltZ, leZ, nonNeg, _≤ℤ_, _<ℤ_}
 use mir.Syntax.{Width, w32, w64}
 use mir.Val.{SFits, hbits}
 use borrow.Author.Needs.{needs}
@@ -211,23 +211,6 @@ product-fits {a} {b} f g =
     let h : natAbs a ≤ 2147483648 = omega (whole, abs-in a) in
     let k : natAbs b ≤ 2147483648 = omega (whole, abs-in b) in
     fits-abs (a *ℤ b) (omega (arith, abs-mul a b, mul-le-mul h k))
-
--- ---- quotients and remainders by a number that is not negative, toward zero
-pub up-quot : (a : ℤ) (k : ℕ) → up (quotZ a (pos k)) ≡ up a / k
-up-quot (pos n) k = refl
-up-quot (negsuc n) k = up-neg (pos (suc n / k)) ∙ sym (zero-div k)
-
-pub down-quot : (a : ℤ) (k : ℕ) → down (quotZ a (pos k)) ≡ down a / k
-down-quot (pos n) k = sym (zero-div k)
-down-quot (negsuc n) k = down-neg (pos (suc n / k))
-
-pub up-rem : (a : ℤ) (k : ℕ) → up (remZ a (pos k)) ≡ up a % k
-up-rem (pos n) k = refl
-up-rem (negsuc n) k = up-neg (pos (suc n % k)) ∙ sym (zero-mod k)
-
-pub down-rem : (a : ℤ) (k : ℕ) → down (remZ a (pos k)) ≡ down a % k
-down-rem (pos n) k = sym (zero-mod k)
-down-rem (negsuc n) k = down-neg (pos (suc n % k))
 
 -- ---- an `i64` holds what one operation makes of two `i32`: `search wide`
 pub widen : {a : ℤ} → SFits w32 a → SFits w64 a

@@ -1,12 +1,12 @@
 -- Laws of `laid`, a buffer with some bytes in the place of others.
 -- Assumes nothing.
-use mathlib.Core.Path.{_≡_, refl, sym, ap, _∙_, subst}
+use mathlib.Core.Path.{_≡_, sym, ap, _∙_, subst}
 use mathlib.Core.List.{List, [], _∷_, _++_, append-assoc, append-nil}
-use Prim.Native.Nat.{ℕ, suc, _+_, _-_, _*_, _≤_, _<_}
+use Prim.Native.Nat.{ℕ, suc, _+_, _-_, _≤_}
 use native.Mathlib.Nat.{add-zero, zero-add, add-assoc}
 use native.Mathlib.Omega.{arith}
-use lib.ListN.{length, getD, take, drop, set, length-append, length-take, length-drop, take-append-drop, drop-of-length-le}
-use lib.Seq.{take-at, drop-at, drop-drop, take-all, length-take-le, sets, sets-eq}
+use lib.ListN.{length, getD, take, drop, set, length-append, length-drop, take-append-drop, drop-of-length-le}
+use lib.Seq.{take-at, drop-at, drop-drop, take-all, length-take-le, sets-eq}
 use borrow.Rule.Slice.PartMut.{putMid}
 use Rattle.whole.specs.Bytes.{laid}
 

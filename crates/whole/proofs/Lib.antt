@@ -4,7 +4,6 @@ pub mod Held
 pub mod Sides
 pub mod Positions
 pub mod Divisions
-pub mod Pieces
 pub mod RuledOut
 pub mod LittleEndian
 pub mod Laying

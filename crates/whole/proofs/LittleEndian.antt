@@ -1,11 +1,11 @@
 -- Bytes, there and back: one law over the number of bytes, and the sign.
 -- Assumes nothing.
-use mathlib.Core.Path.{_≡_, refl, sym, ap, _∙_}
+use mathlib.Core.Path.{_≡_, refl, ap, _∙_}
 use mathlib.Core.List.{List, [], _∷_}
 use Prim.Native.Nat.{ℕ, zero, suc, _+_, _-_, _*_, _/_, _%_, _^_, _<_}
-use native.Mathlib.Nat.{div-add-mod, div-lt-iff-lt-mul, pow-suc}
+use native.Mathlib.Nat.{div-lt-iff-lt-mul, pow-suc}
 use native.Mathlib.Omega.{arith}
-use lib.IntN.{ℤ, pos, negsuc, _-ℤ_}
+use lib.IntN.{ℤ, pos, negsuc}
 use lib.ListN.{length, getD}
 use borrow.Author.Tests.{lt-ltb, le-ltb}
 use mir.Syntax.{w32}
@@ -35,12 +35,6 @@ write-back (b ∷ bs) (h, hs) =
     (λ i. low i ∷ littleEndian (length bs) (high i)) ∙ ap (λ (l : List ℕ). b ∷ l) (write-back bs hs)
 
 -- ---- rows of known length, element by element
-pub two-value : (b : List ℕ) → length b ≡ 2 → valueOf b ≡ getD b 0 0 + 256 * getD b 1 0
-two-value [] h = absurd (omega arith)
-two-value (b0 ∷ []) h = absurd (omega arith)
-two-value (b0 ∷ (b1 ∷ [])) h = omega arith
-two-value (b0 ∷ (b1 ∷ (b2 ∷ bs))) h = absurd (omega arith)
-
 pub four-value : (b : List ℕ) → length b ≡ 4 → valueOf b ≡ getD b 0 0 + 256 * (getD b 1 0 + 256 * (getD b 2 0 + 256 * getD b 3 0))
 four-value [] h = absurd (omega arith)
 four-value (b0 ∷ []) h = absurd (omega arith)

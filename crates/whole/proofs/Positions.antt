@@ -5,10 +5,9 @@ use mathlib.Core.Bool.{Bool, true, false, _&&_}
 use lib.Dec.{T}
 use lib.IntN.{ℤ, pos, _+ℤ_, _*ℤ_}
 use lib.Signed.{ltZ, leZ, _≤ℤ_}
-use Rattle.whole.specs.declared.position.Placed.{Placed}
-use Rattle.whole.specs.declared.position.Placed.the-variants.{At, Outside}
+use Rattle.whole.specs.declared.position.Placed.the-variants.{At}
 use Rattle.whole.specs.Position.{tableLeast, tableGreatest, inTable, targetLeast, targetGreatest, placed}
-use Rattle.whole.proofs.Integers.{whole, up, down, add-in, up-mul, down-mul, le-true, lt-test, nlt-test}
+use Rattle.whole.proofs.Integers.{whole, add-in, up-mul, down-mul, le-true, nlt-test}
 
 -- a number in the table's range
 pub record InTable (z : ℤ) : Type 0 where

@@ -1,6 +1,6 @@
 -- Laws of sides: going the distance to the right side arrives, and what lies on the way fits.
 -- Assumes nothing.
-use mathlib.Core.Path.{_≡_, refl, sym, ap, _∙_, subst}
+use mathlib.Core.Path.{_≡_, refl, sym, subst}
 use Prim.Native.Nat.{ℕ, zero, suc, _+_, _-_, _<_, _≤_}
 use native.Mathlib.Omega.{arith}
 use lib.IntN.{ℤ, pos, negsuc, negℤ, natAbs, _+ℤ_, _-ℤ_, +ℤ-idr}
@@ -9,7 +9,7 @@ use mir.Val.{SFits}
 use Rattle.whole.specs.Signed.{sideOf, along}
 use Rattle.whole.specs.declared.signed.Side.{Side}
 use Rattle.whole.specs.declared.signed.Side.the-variants.{Minus, Zero, Plus}
-use Rattle.whole.proofs.Integers.{up, down, whole, add-in, sub-in, up-neg, down-neg, range, fits, abs}
+use Rattle.whole.proofs.Integers.{up, down, whole, add-in, sub-in, up-neg, down-neg, range, fits}
 
 -- a number is its size to its side
 pub along-side : (z : ℤ) → along (sideOf z) (natAbs z) ≡ z
@@ -59,25 +59,6 @@ along-zero a Minus = +ℤ-idr a
 along-zero a Zero = +ℤ-idr a
 along-zero a Plus = +ℤ-idr a
 
--- a step of m to the side on which b lies, no longer than the way, leaves m less of it
-rest : (z : ℤ) (m : ℕ) → m ≤ natAbs z → natAbs (z -ℤ along (sideOf z) m) ≡ natAbs z - m
-rest (pos zero) m h = omega arith
-rest (pos (suc n)) m h = omega (whole, abs (pos (suc n) -ℤ pos m), sub-in (pos (suc n)) (pos m))
-rest (negsuc n) m h = omega (whole, abs (negsuc n -ℤ negℤ (pos m)), sub-in (negsuc n) (negℤ (pos m)), neg m)
-
-pub nearer : (a b : ℤ) (m : ℕ) → m ≤ natAbs (b -ℤ a) → natAbs (b -ℤ (a +ℤ along (sideOf (b -ℤ a)) m)) ≡ natAbs (b -ℤ a) - m
-nearer a b m h = let y = along (sideOf (b -ℤ a)) m in
-    let e : b -ℤ (a +ℤ y) ≡ (b -ℤ a) -ℤ y = omega (whole, add-in a y, sub-in b a, sub-in b (a +ℤ y), sub-in (b -ℤ a) y) in
-    ap natAbs e ∙ rest (b -ℤ a) m h
-
 -- and it fits where a and b do
 pub toward : {w : Width} {a b : ℤ} → SFits w a → SFits w b → (m : ℕ) → m ≤ natAbs (b -ℤ a) → SFits w (a +ℤ along (sideOf (b -ℤ a)) m)
 toward {w} {a} {b} f g m h = between (sideOf (b -ℤ a)) f (subst (SFits w) (sym (arrives a b)) g) h
-
--- two numbers that differ are some way apart
-pub apart : (a b : ℤ) → (a ≡ b → ⊥) → 0 < natAbs (b -ℤ a)
-apart a b n = go (natAbs (b -ℤ a)) refl
-  where
-    go : (k : ℕ) → natAbs (b -ℤ a) ≡ k → 0 < natAbs (b -ℤ a)
-    go zero e = absurd (n (omega (whole, abs (b -ℤ a), sub-in b a)))
-    go (suc k) e = omega arith

@@ -4,7 +4,6 @@ use lib.IntN.{ℤ, pos, negsuc}
 use lib.Signed.{ltZ, leZ}
 use Rattle.whole.specs.declared.position.Placed.{Placed}
 use Rattle.whole.specs.declared.position.Placed.the-variants.{At, Outside}
-use Rattle.whole.specs.declared.position.Position.{Position}
 
 -- the table's range. 01: "each within -9,999,999 to 9,999,999"; start and soft limits: "all within the same range as the table"
 abbrev pub tableLeast : ℤ

@@ -5,12 +5,6 @@ ghost use Prim.Native.Nat.{_+_, _<_, _≤_};
 ghost use lib.ListN.{length};
 ghost use Rattle.whole.specs.Bytes.{littleEndian, valueOf, wordOf, signedBytes, signedOf, laid};
 
-fn wide16(b: u8) -> u16
-    ensures { λ r. ⌜ (r ≡ b) × (r < 256) ⌝ }
-{
-    b as u16
-}
-
 fn wide32(b: u8) -> u32
     ensures { λ r. ⌜ (r ≡ b) × (r < 256) ⌝ }
 {
@@ -53,12 +47,6 @@ pub fn bytes_of_i32(v: i32) -> [u8; 4]
     ensures { λ r. ⌜ r ≡ signedBytes v ⌝ }
 {
     bytes_of_u32(word_of(v))
-}
-
-pub fn u16_of_bytes(b: [u8; 2]) -> u16
-    ensures { λ r. ⌜ r ≡ valueOf b ⌝ }
-{
-    wide16(b[0]) + 256 * wide16(b[1])
 }
 
 pub fn u32_of_bytes(b: [u8; 4]) -> u32

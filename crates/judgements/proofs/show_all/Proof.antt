@@ -1,8 +1,7 @@
 -- `judgements::show_all` meets its contract.
 use borrow.Author.Needs.{needs}
-use native.Mathlib.Omega.{arith}
 use Prim.Native.Nat.{_≤_, _-_}
-use lib.ListN.{length, length-take}
+use lib.ListN.{length}
 use Rattle.judgements.proofs.show_all.Statement.{statement}
 use Rattle.judgements.proofs.show_all.Tie as tie
 

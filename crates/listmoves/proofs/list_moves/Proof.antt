@@ -39,7 +39,7 @@ returns c =
     let b = t .before .before in
     let n = b .before in
     let s = n .before .before .before in
-    listed (s .args .tape .now) (n .no-offsets .ensures) (t .settings .ensures) (b .fresh-buffer .ensures) (i .interpret .ensures) (s .args .out .now) (p .put-listing .ensures)
+    listed (s .args .tape .now) (n .no-offsets .ensures) (t .settings .ensures) (b .fresh-buffer .ensures) (i .interpret .ensures) (s .args .out .now) (s .pre) (p .put-listing .ensures)
 
 pub list-moves-spec : {M : Type 1} → statement M
 list-moves-spec =

@@ -1,6 +1,6 @@
 -- `moves::list::put_header` meets its contract.
 use borrow.Author.Needs.{needs}
-use mathlib.Core.Path.{_≡_, _∙_}
+use mathlib.Core.Path.{_∙_}
 use mathlib.Core.List.{[], _∷_}
 use lib.ListN.{getD}
 use Rattle.whole.specs.Bytes.{littleEndian, laid}

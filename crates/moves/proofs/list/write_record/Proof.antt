@@ -1,6 +1,5 @@
 -- `moves::list::write_record` meets its contract.
 use borrow.Author.Needs.{needs}
-use mathlib.Core.Path.{_≡_, _∙_}
 use Prim.Native.Nat.{_+_, _*_}
 use Rattle.whole.proofs.Laying.{lent}
 use Rattle.moves.specs.Form.{recordBytes}

@@ -11,7 +11,7 @@ use Rattle.block.specs.declared.rules.Judged.{Judged}
 use Rattle.block.specs.declared.words.Head.{Head}
 use Rattle.block.specs.declared.words.Head.the-variants.{Blank, ProgramLine, BlockLine, Other}
 use Rattle.block.proofs.Heads.{HeadIn, judged-in}
-use Rattle.reading.specs.declared.read.Read.the-variants.{Whole, Alarm}
+use Rattle.reading.specs.declared.read.Read.the-variants.{Alarm}
 use Rattle.reading.specs.Reading.{headAlarm, noted, endsWith, readLines}
 use Rattle.reading.proofs.Going.{Going, whole, starts, at-end, refused-itself, refused, ended, onward, program-above, program-repeated, program-new, block-repeated, block-many, block-new, past-blank, past-program, past-block, blank-none, other-start, blank-on, program-on, block-ends}
 use Rattle.reading.proofs.read.read_lines.Statement.{statement}

@@ -3,7 +3,6 @@ use borrow.Author.Needs.{needs}
 use native.Mathlib.Omega.{arith}
 use native.Mathlib.Nat.{div-add-mod, mul-le-mul-right}
 use Prim.Native.Nat.{_+_, _*_, _/_, _%_, _≤_}
-use mathlib.Core.Path.{_≡_}
 use Rattle.whole.proofs.Divisions.{line-is}
 use Rattle.whole.proofs.division.line_after.Statement.{statement}
 use Rattle.whole.proofs.division.line_after.Tie as tie

@@ -1,7 +1,7 @@
 -- `whole::signed::reach` meets its contract.
 use borrow.Author.Needs.{needs}
 use mathlib.Core.Path.{_≡_, refl, sym, ap, _∙_}
-use lib.IntN.{ℤ, pos, _+ℤ_, _-ℤ_, +ℤ-idr}
+use lib.IntN.{pos, _+ℤ_, _-ℤ_, +ℤ-idr}
 use mir.Syntax.{w32, w64}
 use mir.Val.{SFits, toZ, ofZ}
 use Rattle.whole.proofs.Integers.{whole, add-in, sub-in}
