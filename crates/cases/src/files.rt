@@ -15,9 +15,9 @@ pub fn read_file(path: &[u8], buf: &mut [u8]) -> usize
 fn put_path(path: &mut [u8], name: &[u8], kind: &[u8]) -> usize
     ensures { λ r. ⌜ Counts r (now (path .exit)) ⌝ }
 {
-    let first = crate::text::put(path, 0, b"examples/");
-    let second = crate::text::put(path, first, name);
-    crate::text::put(path, second, kind)
+    let first = stored::text::put(path, 0, b"examples/");
+    let second = stored::text::put(path, first, name);
+    stored::text::put(path, second, kind)
 }
 
 // Reads the file of an example that ends with `kind`, and answers its length.

@@ -1,10 +1,10 @@
 // A case judged: its tape is run through the board's door with what the case gives, the listing is made of what came of it, and that is compared with the listing that is wanted.
-use crate::compare::Verdict;
-use crate::given::ALL;
 use interpreter::interpret::Answer;
+use stored::compare::Verdict;
+use stored::given::ALL;
 ghost use Prim.Native.Nat.{_≤_};
 ghost use lib.ListN.{length};
-ghost use Rattle.cases.specs.Texts.{FromOne};
+ghost use Rattle.stored.specs.Texts.{FromOne};
 
 // The longest listing.
 const TEXT: usize = listing::lines::LONGEST_HEAD
@@ -17,15 +17,15 @@ fn listing_text() -> [u8; TEXT] {
 // The nine settings in the order of the door.
 fn settings_of(given: &[i32; ALL]) -> [i32; 9] {
     [
-        given[crate::given::MAIN],
-        given[crate::given::LOWEST],
-        given[crate::given::RETRACT],
-        given[crate::given::X],
-        given[crate::given::Z],
-        given[crate::given::X_LOW],
-        given[crate::given::X_HIGH],
-        given[crate::given::Z_LOW],
-        given[crate::given::Z_HIGH],
+        given[stored::given::MAIN],
+        given[stored::given::LOWEST],
+        given[stored::given::RETRACT],
+        given[stored::given::X],
+        given[stored::given::Z],
+        given[stored::given::X_LOW],
+        given[stored::given::X_HIGH],
+        given[stored::given::Z_LOW],
+        given[stored::given::Z_HIGH],
     ]
 }
 
@@ -46,7 +46,7 @@ fn judge_answer(answer: Answer, list: &[u8], want: &[u8]) -> Verdict
 {
     let mut text = listing_text();
     let n = listing::lines::put_listing(answer, list, &mut text);
-    crate::compare::compare(&text[..n], want)
+    stored::compare::compare(&text[..n], want)
 }
 
 // Runs a tape through the door and judges what it answers and leaves.
@@ -62,8 +62,8 @@ pub fn judge(tape: &[u8], given: [i32; ALL], want: &[u8]) -> Verdict
     ensures { λ r. ⌜ FromOne r ⌝ }
 {
     let mut space = io::large_buffer();
-    let numbers = crate::given::numbers_of(&given);
-    let bytes = crate::given::bytes_of(&given);
+    let numbers = stored::given::numbers_of(&given);
+    let bytes = stored::given::bytes_of(&given);
     let settings = settings_of(&given);
     judge_run(
         tape,
@@ -79,8 +79,8 @@ pub fn judge_case(case: &[u8], from: usize, want: &[u8]) -> Verdict
     requires { ⌜ from ≤ length (now case) ⌝ }
     ensures { λ r. ⌜ FromOne r ⌝ }
 {
-    let mut given = crate::given::usual();
-    let start = crate::given::read_given(case, from, &mut given);
+    let mut given = stored::given::usual();
+    let start = stored::given::read_given(case, from, &mut given);
     if !start.lawful {
         return Verdict::Unread;
     }

@@ -1,17 +1,13 @@
 // Stored tapes with the listings that they must give, run through the board's door and compared: those of 01, of its readings and of manual 001, those of the alarm card, and the examples.
 // A line for each: its name and `agrees`, or `DIFFERS at line N` of the listing.
-// The file `stdin` holds the first: a name, LF, lines of settings (given.rt), the tape, byte 29, the listing (compare.rt), and byte 30. data/ALARMS.md is the card (card.rt). Each line of
-// the file `args` names an example: data/examples has its tape, its listing, and its settings where they are other ones than those of `listmoves`.
-mod card;
-mod compare;
+// The file `stdin` holds the first: a name, LF, lines of settings, the tape, byte 29, the listing, and byte 30. data/ALARMS.md is the card. Each line of the file `args` names an example:
+// data/examples has its tape, its listing, and its settings where they are other ones than those of `listmoves`. How each is written down the crate `stored` knows.
 mod files;
-mod given;
 mod judge;
-mod text;
 
-use compare::Verdict;
 use libc::STDIN_FILENO;
 use libc::STDOUT_FILENO;
+use stored::compare::Verdict;
 
 // What stands between a tape and its listing, and what ends a case.
 const BEHIND_TAPE: u8 = 29;
@@ -40,7 +36,7 @@ fn show_case(case: &[u8]) {
     let name = first.stop;
     let settings = first.after;
     show(&case[0..name]);
-    let behind = text::find(case, settings, BEHIND_TAPE);
+    let behind = stored::text::find(case, settings, BEHIND_TAPE);
     if behind >= case.len() {
         show(b" HAS NO LISTING\n");
         return;
@@ -53,7 +49,7 @@ fn show_case(case: &[u8]) {
 fn show_cases(all: &[u8]) {
     let mut p = 0;
     while p < all.len() {
-        let end = text::find(all, p, BEHIND_LISTING);
+        let end = stored::text::find(all, p, BEHIND_LISTING);
         show_case(&all[p..end]);
         if end >= all.len() {
             return;
@@ -64,7 +60,7 @@ fn show_cases(all: &[u8]) {
 
 // Writes what a tape of the card must give, and what came of it.
 fn show_alarm(case: &[u8], want: &[u8]) {
-    let end = text::find(want, 0, b'\n');
+    let end = stored::text::find(want, 0, b'\n');
     show(b"card ");
     show(&want[0..end]);
     show_verdict(judge::judge_case(case, 0, want));
@@ -74,9 +70,9 @@ fn show_alarm(case: &[u8], want: &[u8]) {
 fn show_card(page: &[u8]) {
     let mut p = 0;
     while p < page.len() {
-        let case = card::fence_from(page, p);
+        let case = stored::card::fence_from(page, p);
         let next = case.after;
-        let want = card::fence_from(page, next);
+        let want = stored::card::fence_from(page, next);
         let on = want.after;
         if want.stop >= page.len() {
             return;
@@ -97,7 +93,7 @@ fn show_card(page: &[u8]) {
 fn show_long() {
     let tape = io::large_buffer();
     show(b"card ALARM 2 0 0");
-    show_verdict(judge::judge(&tape, given::usual(), b"ALARM 2 0 0\n"));
+    show_verdict(judge::judge(&tape, stored::given::usual(), b"ALARM 2 0 0\n"));
 }
 
 fn show_example(name: &[u8]) {
@@ -105,8 +101,8 @@ fn show_example(name: &[u8]) {
     show(name);
     let mut settings = io::buffer();
     let s = files::read_part(name, b".set", &mut settings);
-    let mut given = given::usual();
-    let start = given::read_given(&settings[..s], 0, &mut given);
+    let mut given = stored::given::usual();
+    let start = stored::given::read_given(&settings[..s], 0, &mut given);
     if !start.lawful | (start.at < s) {
         show_verdict(Verdict::Unread);
         return;

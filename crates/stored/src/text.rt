@@ -3,7 +3,7 @@ ghost use mathlib.Core.Path.{_≡_};
 ghost use Prim.Native.Nat.{_≤_};
 ghost use lib.ListN.{length};
 ghost use Rattle.io.specs.Counts.{Counts};
-ghost use Rattle.cases.specs.Texts.{sameText};
+ghost use Rattle.stored.specs.Texts.{sameText};
 
 // The place of the first byte b from `from` on, or the end.
 pub fn find(s: &[u8], from: usize, b: u8) -> usize

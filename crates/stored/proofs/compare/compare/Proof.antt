@@ -1,10 +1,10 @@
--- `cases::compare::compare` meets its contract. The invariant: the lines are counted from 1, and the line that is wanted lies in the listing. The measure is what is left of the listing that was made.
+-- `stored::compare::compare` meets its contract. The invariant: the lines are counted from 1, and the line that is wanted lies in the listing. The measure is what is left of the listing that was made.
 use native.Mathlib.Omega.{arith}
 use Prim.Native.Nat.{_+_, _-_, _<_, _≤_}
 use lib.ListN.{length}
 use borrow.Author.Needs.{needs}
-use Rattle.cases.proofs.compare.compare.Statement.{statement}
-use Rattle.cases.proofs.compare.compare.Tie as tie
+use Rattle.stored.proofs.compare.compare.Statement.{statement}
+use Rattle.stored.proofs.compare.compare.Tie as tie
 
 abbrev Inv-loop : tie.InvT-loop
 Inv-loop made want w₀ number₀ p₀ w number p = (p ≤ length made) × (0 < number) × (number ≤ p + 1) × (w .from ≤ w .stop) × (w .stop ≤ length want) × (w .after ≤ length want)

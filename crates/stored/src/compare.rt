@@ -4,7 +4,7 @@ use tape::number::Kind;
 use tape::number::Number;
 ghost use Prim.Native.Nat.{_≤_};
 ghost use lib.ListN.{length};
-ghost use Rattle.cases.specs.Texts.{FromOne};
+ghost use Rattle.stored.specs.Texts.{FromOne};
 
 // The first line of the listing that is not as it should be counts from 1. A case whose settings cannot be read compares nothing.
 pub enum Verdict {

@@ -1,9 +1,9 @@
--- `cases::text::find` meets its contract.
+-- `stored::text::find` meets its contract.
 use borrow.Author.Needs.{needs}
 use Prim.Native.Nat.{_≤_, _-_}
 use lib.ListN.{length}
-use Rattle.cases.proofs.text.find.Statement.{statement}
-use Rattle.cases.proofs.text.find.Tie as tie
+use Rattle.stored.proofs.text.find.Statement.{statement}
+use Rattle.stored.proofs.text.find.Tie as tie
 
 abbrev Inv-loop : tie.InvT-loop
 Inv-loop s from b i₀ i = (from ≤ i) × (i ≤ length s)

@@ -3,8 +3,8 @@ use mathlib.Core.Bool.{Bool, true, false, _&&_}
 use mathlib.Core.List.{List, [], _∷_}
 use Prim.Native.Nat.{ℕ, _<_}
 use lib.Dec.{eqb}
-use Rattle.cases.specs.declared.compare.Verdict.{Verdict}
-use Rattle.cases.specs.declared.compare.Verdict.the-variants.{Agrees, Differs, Unread}
+use Rattle.stored.specs.declared.compare.Verdict.{Verdict}
+use Rattle.stored.specs.declared.compare.Verdict.the-variants.{Agrees, Differs, Unread}
 
 unfoldable pub sameText : List ℕ → List ℕ → Bool
 sameText [] [] = true

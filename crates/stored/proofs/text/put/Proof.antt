@@ -1,12 +1,12 @@
--- `cases::text::put` is safe, and ends within the path. The invariant: it stays within the path and within the text. The measure is what is left of the text.
+-- `stored::text::put` is safe, and ends within the path. The invariant: it stays within the path and within the text. The measure is what is left of the text.
 use mathlib.Core.Path.{_≡_, sym, _∙_}
 use native.Mathlib.Omega.{arith}
 use Prim.Native.Nat.{_-_, _≤_}
 use lib.ListN.{length, getD, length-set}
 use lib.Seq.{length-take-le}
 use borrow.Author.Needs.{needs}
-use Rattle.cases.proofs.text.put.Statement.{statement}
-use Rattle.cases.proofs.text.put.Tie as tie
+use Rattle.stored.proofs.text.put.Statement.{statement}
+use Rattle.stored.proofs.text.put.Tie as tie
 
 abbrev Inv-loop : tie.InvT-loop
 Inv-loop path₀ at words to₀ i₀ path to i = (to ≤ length path) × (length path ≡ length path₀) × (i ≤ length words)

@@ -1,4 +1,4 @@
--- `cases::text::same` meets its contract.
+-- `stored::text::same` meets its contract.
 -- The invariant: the two are as long as each other, and the same if what is left of them from i on is.
 use mathlib.Core.Path.{_≡_, refl, sym, ap, _∙_}
 use mathlib.Core.Bool.{Bool, true, false, _&&_}
@@ -13,9 +13,9 @@ use borrow.Author.Tests.{eq-eqb, ne-eqb}
 use native.Mathlib.Numerals.{add-one}
 use lib.ListN.{length, getD, drop, drop-of-length-le}
 use lib.Seq.{drop-cons}
-use Rattle.cases.specs.Texts.{sameText}
-use Rattle.cases.proofs.text.same.Statement.{statement}
-use Rattle.cases.proofs.text.same.Tie as tie
+use Rattle.stored.specs.Texts.{sameText}
+use Rattle.stored.proofs.text.same.Statement.{statement}
+use Rattle.stored.proofs.text.same.Tie as tie
 
 not-as-long : (a b : List ℕ) → (length a ≡ length b → ⊥) → sameText a b ≡ false
 unfolding sameText

@@ -5,7 +5,7 @@ use tape::number::Number;
 ghost use mathlib.Core.Path.{_≡_};
 ghost use Prim.Native.Nat.{_≤_};
 ghost use lib.ListN.{length};
-ghost use Rattle.cases.specs.Given.{usual};
+ghost use Rattle.stored.specs.Given.{usual};
 
 // Where the lines end that begin with `=`, and whether each could be read.
 pub struct Start {

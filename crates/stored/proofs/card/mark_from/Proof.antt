@@ -1,10 +1,10 @@
--- `cases::card::mark_from` meets its contract. The invariant: p is within the page, and not before the place from which it looks. The measure is what is left of the page.
+-- `stored::card::mark_from` meets its contract. The invariant: p is within the page, and not before the place from which it looks. The measure is what is left of the page.
 use native.Mathlib.Omega.{arith}
 use Prim.Native.Nat.{_-_, _≤_}
 use lib.ListN.{length}
 use borrow.Author.Needs.{needs}
-use Rattle.cases.proofs.card.mark_from.Statement.{statement}
-use Rattle.cases.proofs.card.mark_from.Tie as tie
+use Rattle.stored.proofs.card.mark_from.Statement.{statement}
+use Rattle.stored.proofs.card.mark_from.Tie as tie
 
 abbrev Inv-loop : tie.InvT-loop
 Inv-loop page from p₀ t7 p = (from ≤ p) × (p ≤ length page)

@@ -1,10 +1,10 @@
--- `cases::given::read_given` meets its contract. The invariant: p is within the text. The measure is what is left of it.
+-- `stored::given::read_given` meets its contract. The invariant: p is within the text. The measure is what is left of it.
 use native.Mathlib.Omega.{arith}
 use Prim.Native.Nat.{_-_, _≤_}
 use lib.ListN.{length}
 use borrow.Author.Needs.{needs}
-use Rattle.cases.proofs.given.read_given.Statement.{statement}
-use Rattle.cases.proofs.given.read_given.Tie as tie
+use Rattle.stored.proofs.given.read_given.Statement.{statement}
+use Rattle.stored.proofs.given.read_given.Tie as tie
 
 abbrev Inv-loop : tie.InvT-loop
 Inv-loop text from given₀ p₀ given p = p ≤ length text

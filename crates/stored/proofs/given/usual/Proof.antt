@@ -1,9 +1,9 @@
--- `cases::given::usual` meets its contract.
+-- `stored::given::usual` meets its contract.
 use mathlib.Core.Path.{refl}
-use Rattle.cases.specs.Given.{usual}
+use Rattle.stored.specs.Given.{usual}
 use borrow.Author.Needs.{needs}
-use Rattle.cases.proofs.given.usual.Statement.{statement}
-use Rattle.cases.proofs.given.usual.Tie as tie
+use Rattle.stored.proofs.given.usual.Statement.{statement}
+use Rattle.stored.proofs.given.usual.Tie as tie
 
 array-set-of-given : tie.Need-array-set-of-given
 array-set-of-given c = search needs
