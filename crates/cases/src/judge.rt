@@ -8,7 +8,7 @@ ghost use Rattle.stored.specs.Texts.{FromOne};
 
 // The longest listing.
 const TEXT: usize = listing::lines::LONGEST_HEAD
-    + listing::lines::LONGEST_LINE * moves::RECORD_LIMIT;
+    + listing::lines::LONGEST_RECORD_LINE * moves::RECORD_LIMIT;
 
 fn listing_text() -> [u8; TEXT] {
     [0u8; TEXT]

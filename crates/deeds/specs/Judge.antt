@@ -88,7 +88,7 @@ isNowhere (Thread x z) = false
 isNowhere (Turn c) = false
 isNowhere (Groove g) = false
 
--- all records of the block at once; "a block that writes nothing never gives it"
+-- alarm 20, asked for all records of the block at once; a block that writes none never gives it
 abbrev pub roomWrong : Deed → Asked → Bool
 roomWrong d a = ltb 0 (deedRecords d + a .others) && ltb (a .left) (deedRecords d + a .others)
 

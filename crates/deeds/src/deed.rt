@@ -1,4 +1,4 @@
-// The deed of a block, and the cycles as their words give them: what is counted on a diameter is scaled here, and nowhere else.
+// The deed of a block, and the cycles as their words give them: a cycle's D words and retract that count on a diameter are scaled here, and nowhere else.
 // (01, "G84": "d = 2 x D3 (D3 is per side)"; "G86": "2 x D3", "twice the retract", facing "tool width 2 x D5, overlap 200, depth piece D3, single retract".)
 use block::codes::Motion;
 use block::words::Block;
@@ -41,7 +41,7 @@ pub struct Sending {
 const OVERLAP: u32 = 100;
 
 // Whether the block has a path word.
-pub fn has_path(b: Block) -> bool
+fn has_path(b: Block) -> bool
     ensures { λ r. ⌜ r ≡ hasPath b ⌝ }
 {
     let x = block::rules::has(b, block::words::X) | block::rules::has(b, block::words::U);
@@ -66,7 +66,7 @@ fn wide(n: u8) -> u32
 }
 
 // The D word of an index, 0 where there is none.
-fn setting(b: Block, index: usize) -> u32
+fn d_word(b: Block, index: usize) -> u32
     requires { ⌜ Small b × (index < 10) ⌝ }
     ensures { λ r. ⌜ (r ≡ codeIn b (dFirst + index)) × (r < 32_768) ⌝ }
 {
@@ -82,14 +82,14 @@ fn cycle_of(b: Block, s: Sending) -> Cycle
     let x = Axis {
         start: s.x,
         target: s.xto,
-        allowance: setting(b, 0),
+        allowance: d_word(b, 0),
     };
     let z = Axis {
         start: s.z,
         target: s.zto,
-        allowance: setting(b, 2),
+        allowance: d_word(b, 2),
     };
-    let d3 = setting(b, 3);
+    let d3 = d_word(b, 3);
     if is_facing(b) {
         return Cycle {
             facing: true,
@@ -123,9 +123,9 @@ fn groove_of(b: Block, s: Sending) -> Groove
         start: s.z,
         target: s.zto,
     };
-    let d3 = setting(b, 3);
-    let d4 = setting(b, 4);
-    let d5 = setting(b, 5);
+    let d3 = d_word(b, 3);
+    let d4 = d_word(b, 4);
+    let d5 = d_word(b, 5);
     let retract = s.retract;
     if is_facing(b) {
         return Groove {
@@ -162,7 +162,7 @@ fn move_of(m: Motion, b: Block, s: Sending) -> Deed
 {
     let path = has_path(b);
     match m {
-        Motion::Dwell => Deed::Dwell(setting(b, 4)),
+        Motion::Dwell => Deed::Dwell(d_word(b, 4)),
         Motion::Turning => Deed::Turn(cycle_of(b, s)),
         Motion::Grooving => Deed::Groove(groove_of(b, s)),
         Motion::Rapid => {

@@ -7,7 +7,7 @@ ghost use mathlib.Core.Bool.{false};
 ghost use Rattle.deeds.specs.Judge.{isTraverse, isRapid, feedWrong, lengthWrong, endsOutside, deedRecords, isNowhere, alarmOf, Near};
 
 // Whether a deed moves an axis: "Cycles and G33 are traverses; blocks without a move are none".
-pub fn is_traverse(d: Deed) -> bool
+fn is_traverse(d: Deed) -> bool
     ensures { λ r. ⌜ r ≡ isTraverse d ⌝ }
 {
     match d {
@@ -22,7 +22,7 @@ pub fn is_traverse(d: Deed) -> bool
     }
 }
 
-pub fn is_rapid(d: Deed) -> bool
+fn is_rapid(d: Deed) -> bool
     ensures { λ r. ⌜ r ≡ isRapid d ⌝ }
 {
     match d {

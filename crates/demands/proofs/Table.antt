@@ -5,7 +5,7 @@ use mathlib.Core.Bool.{true}
 use Rattle.whole.specs.Division.{count, pieces}
 use Rattle.whole.specs.Position.{inTable}
 use Rattle.moves.specs.Form.{roomOf}
-use Rattle.tape.specs.Lines.{seek, opensTape, isFeed, lineAt, gapOf, linesUp, lines}
+use Rattle.tape.specs.Lines.{seek, opensTape, isLineFeed, lineAt, gapOf, linesUp, lines}
 use Rattle.tape.specs.Numbers.{digitsOf, unsignedPath, pathOf, digitsIn, numberOf}
 use Rattle.tape.specs.Words.{capital, endsNumber, kindOf, numberWord, indexedWord, wordAt, nextWord, wordsUp, wordsFrom}
 use Rattle.block.specs.Codes.{gCode, mCode}
@@ -32,7 +32,7 @@ use Rattle.interpreter.specs.Wrong.{someOut, spanWrong, numbersWrong, tableWron
 use Rattle.demands.specs.Table.{table, allHold}
 
 pub pieces-come-out : allHold table ≡ true
-unfolding count pieces inTable roomOf seek opensTape isFeed lineAt gapOf linesUp lines digitsOf unsignedPath pathOf digitsIn numberOf capital endsNumber kindOf numberWord
+unfolding count pieces inTable roomOf seek opensTape isLineFeed lineAt gapOf linesUp lines digitsOf unsignedPath pathOf digitsIn numberOf capital endsNumber kindOf numberWord
     indexedWord wordAt nextWord wordsUp wordsFrom gCode mCode has anyFrom groupZeroIs callsOrJumps unknownNumber lateN afterProgram axisTwice lWordWrong moreThanL
     dwellWithCall dwellWithPath allowanceWrong divisionWrong dwellWrong widthWrong otherPOrD dWordWrong axisMissing widthMissing broken brokenBy judged slotOf noWords isEnd
     putWord isProgramAddress faultyRest gather headBy headOf lineOf hereOf foundBy seekLine blockOfProgram headAlarm lineAlarm noted endsWith readLines readOf

@@ -56,7 +56,7 @@ cutCount g = cond (eqb (g .piece) 0) 1 (count (lengthOf (g .depth)) (g .piece))
 abbrev pub cuts : Groove → List ℕ
 cuts g = pieces (lengthOf (g .depth)) (cutCount g)
 
--- the records of a groove at the width place w: a feed to the depth place d, a rapid there, a dwell there
+-- two records of a groove at the width place w: a feed to the depth place d, and a rapid there
 abbrev pub cutTo : Groove → ℤ → ℤ → Record
 cutTo g w d = feedTo (g .facing) (g .f) (g .g95) d w
 

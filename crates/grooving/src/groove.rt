@@ -106,7 +106,7 @@ pub fn record_count(g: Groove) -> u64
 }
 
 // Where the last plunge stands on the width axis.
-pub fn last_width(g: Groove) -> i32
+fn last_width(g: Groove) -> i32
     requires { ⌜ wrong g ≡ false ⌝ }
     ensures { λ r. ⌜ r ≡ lastWidth g ⌝ }
 {

@@ -61,7 +61,7 @@ blocks call t program calls (suc f) from r = onward call (λ p s. blocks call t 
 abbrev pub blocksInAll : ℕ
 blocksInAll = 20_000
 
--- the fuel of a program's run: one more. It stays shut, so that no check counts it down
+-- the fuel of a program's run: one more. It is not unfolded in proofs, where it would be counted down one by one
 unfoldable pub enough : ℕ
 enough = 20_001
 

@@ -11,9 +11,11 @@ use lib.ListN.{length}
 use Rattle.whole.specs.Position.{inTable}
 use Rattle.cycles.specs.Limits.{outsideSpan}
 use Rattle.cycles.specs.declared.limits.Span.{Span}
+use Rattle.reading.specs.Reading.{highestProgram}
 use Rattle.state.specs.Target.{Table}
 use Rattle.machine.specs.Known.{InRange}
 use Rattle.machine.specs.declared.run.Settings.{Settings}
+use Rattle.steps.specs.Ahead.{highestSubroutine}
 
 -- some number of a row is out of range
 unfoldable pub someOut : List ℤ → Bool
@@ -26,7 +28,7 @@ spanWrong s start = (not (inTable (s .lowest)) || not (inTable (s .highest))) ||
 
 -- "lowest subroutine above 255, main above 6999 or from lowest subroutine to 255"
 unfoldable pub numbersWrong : ℕ → ℕ → Bool
-numbersWrong main lowest = ltb 255 lowest || (ltb 6_999 main || (leb lowest main && leb main 255))
+numbersWrong main lowest = ltb highestSubroutine lowest || (ltb highestProgram main || (leb lowest main && leb main highestSubroutine))
 
 unfoldable pub tableWrong : List ℤ → Bool
 tableWrong table = not (eqb (length table) 208) || someOut table

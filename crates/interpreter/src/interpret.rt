@@ -22,13 +22,16 @@ pub enum Answer {
 
 const LONGEST_TAPE: usize = 65_535;
 
+// "A run begins at most 20,000 blocks"
+const BLOCKS_IN_ALL: u32 = 20_000;
+
 // "At the start: ..", with all blocks left to begin and no record written.
 fn start_of(set: Settings) -> Run
     ensures { λ r. ⌜ r ≡ startOf set ⌝ }
 {
     Run {
         state: state::modal::at_start(set.x, set.z),
-        left: 20_000,
+        left: BLOCKS_IN_ALL,
         count: 0,
     }
 }
@@ -89,6 +92,7 @@ fn run_read(tape: &[u8], table: &[i32], set: Settings, read: Read, buf: &mut [u8
     }
 }
 
+// The whole work: every tape, table, settings and buffer give a complete list or one alarm. The contract says the answer and every byte of the buffer.
 pub fn interpret(tape: &[u8], table: &[i32], set: Settings, buf: &mut [u8]) -> Answer
     ensures result { λ r. ⌜ r ≡ answerOf (now (tape .entry)) (now (table .entry)) set (length (now (buf .entry))) ⌝ }
     ensures records { λ _. ⌜ now (buf .exit) ≡ bufferOf (now (tape .entry)) (now (table .entry)) set (now (buf .entry)) ⌝ }

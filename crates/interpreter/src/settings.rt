@@ -10,8 +10,6 @@ const TABLE_SIZE: usize = 208;
 
 const GREATEST_RETRACT: u32 = 32_767;
 
-const HIGHEST_SUBROUTINE: u32 = 255;
-
 // Whether the table has not its size, or a number out of range.
 fn table_wrong(table: &[i32]) -> bool
     ensures { λ r. ⌜ r ≡ tableWrong (now (table .entry)) ⌝ }
@@ -41,8 +39,9 @@ fn span_wrong(s: Span, start: i32) -> bool
 fn numbers_wrong(main: u32, lowest: u32) -> bool
     ensures { λ r. ⌜ r ≡ numbersWrong main lowest ⌝ }
 {
-    let called = (lowest <= main) & (main <= HIGHEST_SUBROUTINE);
-    (HIGHEST_SUBROUTINE < lowest) | ((reading::read::HIGHEST_PROGRAM < main) | called)
+    let highest = steps::ahead::HIGHEST_SUBROUTINE;
+    let called = (lowest <= main) & (main <= highest);
+    (highest < lowest) | ((reading::read::HIGHEST_PROGRAM < main) | called)
 }
 
 pub fn settings_wrong(table: &[i32], set: Settings) -> bool

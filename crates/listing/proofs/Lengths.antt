@@ -8,7 +8,7 @@ use mir.Syntax.{w32}
 use mir.Val.{SFits}
 use Rattle.moves.specs.Form.{version, Fitting}
 use Rattle.moves.specs.declared.record.Record.{Record}
-use Rattle.listing.specs.Listing.{headLine, recordLine, alarmLine, longestHead, longestLine, longestAlarm}
+use Rattle.listing.specs.Listing.{headLine, recordLine, alarmLine, longestHead, longestRecordLine, longestAlarm}
 use Rattle.listing.proofs.Digits.{few-decimal, few-signed}
 
 -- a signed number of 32 bits is no further from zero than this
@@ -21,7 +21,7 @@ unfolding headLine
 short-head count h =
     simp length-append (omega (arith, few-decimal 0 version (omega arith), few-decimal 19 count (omega arith)))
 
-pub short-line : (r : Record) → Fitting r → length (recordLine r) ≤ longestLine
+pub short-line : (r : Record) → Fitting r → length (recordLine r) ≤ longestRecordLine
 unfolding recordLine
 short-line r f =
     simp length-append

@@ -1,4 +1,4 @@
--- The laws of this crate, for the crates above it.
+-- The laws of this crate, for the crates built on it.
 pub mod Digits
 pub mod Writing
 pub mod Numbers

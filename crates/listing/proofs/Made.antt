@@ -13,7 +13,7 @@ use Rattle.moves.specs.declared.record.Record.{Record}
 use Rattle.tape.specs.Text.{bytes}
 use Rattle.interpreter.specs.declared.interpret.Answer.{Answer}
 use Rattle.interpreter.specs.declared.interpret.Answer.the-variants.{Complete, Alarm}
-use Rattle.listing.specs.Listing.{space, lineFeed, decimal, signed, line, headLine, recordLine, recordLines, alarmLine, listingOf, longestHead, longestLine, longestAlarm, isMade, textOf}
+use Rattle.listing.specs.Listing.{space, lineFeed, decimal, signed, line, headLine, recordLine, recordLines, alarmLine, listingOf, longestHead, longestRecordLine, longestAlarm, isMade, textOf}
 use Rattle.listing.specs.Wrote.{Wrote}
 use Rattle.listing.proofs.Lengths.{short-head, short-line, short-alarm}
 use Rattle.listing.proofs.Reading.{part-is, lines-left, no-lines-left}
@@ -115,7 +115,7 @@ module _ (r : Record) where
   abbrev valueWord : List ℕ
   valueWord = decimal (r .value)
 
-module _ (b : List ℕ) (at : ℕ) (r : Record) (f : Fitting r) (room : at + longestLine ≤ length b) where
+module _ (b : List ℕ) (at : ℕ) (r : Record) (f : Fitting r) (room : at + longestRecordLine ≤ length b) where
   line-fits : at + length (recordLine r) ≤ length b
   line-fits = omega (arith, short-line r f)
 
@@ -156,7 +156,7 @@ module _ (b : List ℕ) (at : ℕ) (r : Record) (f : Fitting r) (room : at + lon
               (word-on c1 m1 (flagsWord r) (xWord r) (zWord r ∷ valueWord r ∷ []) rest1 w2
               (word-on c2 m2 (xWord r) (zWord r) (valueWord r ∷ []) rest2 w3 (word-on c3 m3 (zWord r) (valueWord r) [] rest3 w4 k)))
 
-          pub line-made : {n : ℕ} {e : List ℕ} → Wrote c4 m4 (valueWord r ++ (lineFeed ∷ [])) n e → Wrote b at (recordLine r) n e × (n ≤ at + longestLine)
+          pub line-made : {n : ℕ} {e : List ℕ} → Wrote c4 m4 (valueWord r ++ (lineFeed ∷ [])) n e → Wrote b at (recordLine r) n e × (n ≤ at + longestRecordLine)
           line-made k = (written-line k, omega (arith, written-line k .place, short-line r f))
 
 -- ---- the lines of the records, one after the other
@@ -167,8 +167,8 @@ records-begin b at list count h =
     subst (λ (n : ℕ). Going b at (recordLines (recordsIn list 0 count)) b at (recordLines (recordsIn list 0 n))) e (begin b at (recordLines (recordsIn list 0 count)) h)
 
 module _ {b : List ℕ} {at : ℕ} {all c : List ℕ} {m : ℕ} (list : List ℕ) (k count : ℕ) (g : Going b at all c m (recordLines (recordsIn list k (count - k)))) where
-  pub record-next : k < count → m + longestLine ≤ length c → {what : Record} → what ≡ recordIn (take (length list - recordStart k) (drop (recordStart k) list))
-      → {n : ℕ} {e : List ℕ} → Wrote c m (recordLine what) n e → n ≤ m + longestLine → Going b at all e n (recordLines (recordsIn list (k + 1) (count - (k + 1))))
+  pub record-next : k < count → m + longestRecordLine ≤ length c → {what : Record} → what ≡ recordIn (take (length list - recordStart k) (drop (recordStart k) list))
+      → {n : ℕ} {e : List ℕ} → Wrote c m (recordLine what) n e → n ≤ m + longestRecordLine → Going b at all e n (recordLines (recordsIn list (k + 1) (count - (k + 1))))
   record-next h room {what} is {n} {e} w short =
       let here : recordLine what ≡ recordLine (recordIn (drop (recordStart k) list)) = ap recordLine (is ∙ ap recordIn (part-is list (recordStart k))) in
       let one = wrote-as here w in
@@ -187,17 +187,17 @@ module _ (b list : List ℕ) (count : ℕ) where
   not-held h = (rw (lt-leb count (roomOf (length list)) h) (nothing-wrote b 0), omega arith)
 
   module _ (held : count ≤ roomOf (length list)) where
-    pub no-room : length b < longestHead + longestLine * count → Made 0 b
+    pub no-room : length b < longestHead + longestRecordLine * count → Made 0 b
     unfolding textOf isMade
-    no-room h = (rw (le-leb count (roomOf (length list)) held, lt-leb (longestHead + longestLine * count) (length b) h) (nothing-wrote b 0), omega arith)
+    no-room h = (rw (le-leb count (roomOf (length list)) held, lt-leb (longestHead + longestRecordLine * count) (length b) h) (nothing-wrote b 0), omega arith)
 
-    module _ (room : longestHead + longestLine * count ≤ length b) where
+    module _ (room : longestHead + longestRecordLine * count ≤ length b) where
       listing-is : textOf (Complete count) list (length b) ≡ headLine count ++ recordLines (recordsIn list 0 count)
       unfolding textOf isMade listingOf
-      listing-is = rw (le-leb count (roomOf (length list)) held, le-leb (longestHead + longestLine * count) (length b) room) refl
+      listing-is = rw (le-leb count (roomOf (length list)) held, le-leb (longestHead + longestRecordLine * count) (length b) room) refl
 
       pub listing-made : {m : ℕ} {c : List ℕ} → Wrote b 0 (headLine count) m c × (m ≤ longestHead) → {r : ℕ} {e : List ℕ}
-          → Wrote c m (recordLines (recordsIn list 0 count)) r e × (r ≤ m + longestLine * count) → Made r e
+          → Wrote c m (recordLines (recordsIn list 0 count)) r e × (r ≤ m + longestRecordLine * count) → Made r e
       listing-made {m} {c} one {r} {e} two = (
         wrote-as (sym listing-is) (behind (headLine count) (recordLines (recordsIn list 0 count)) (one .0) (omega (arith, one .1, room)) (two .0)),
         omega (arith, one .1, two .1, room),

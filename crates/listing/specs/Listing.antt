@@ -75,15 +75,15 @@ listingOf (Alarm alarm place count) list = alarmLine alarm place count
 abbrev pub longestHead : ℕ
 longestHead = 27
 
-abbrev pub longestLine : ℕ
-longestLine = 43
+abbrev pub longestRecordLine : ℕ
+longestRecordLine = 43
 
 abbrev pub longestAlarm : ℕ
 longestAlarm = 52
 
 -- whether a listing is made: the buffer of the list can hold as many records as the answer counts, and there is room for the longest listing of so many
 unfoldable pub isMade : Answer → ℕ → ℕ → Bool
-isMade (Complete count) bytes room = leb count (roomOf bytes) && leb (longestHead + longestLine * count) room
+isMade (Complete count) bytes room = leb count (roomOf bytes) && leb (longestHead + longestRecordLine * count) room
 isMade (Alarm alarm place count) bytes room = leb longestAlarm room
 
 -- the text that is written where there is so much room for it: the listing, or nothing

@@ -12,13 +12,13 @@ ghost use Rattle.whole.specs.Bytes.{laid};
 ghost use Rattle.moves.specs.Form.{roomOf};
 ghost use Rattle.moves.specs.Reading.{recordsIn};
 ghost use Rattle.interpreter.specs.declared.interpret.Answer.the-variants.{Complete, Alarm};
-ghost use Rattle.listing.specs.Listing.{recordLine, recordLines, headLine, textOf, longestHead, longestLine};
+ghost use Rattle.listing.specs.Listing.{recordLine, recordLines, headLine, textOf, longestHead, longestRecordLine};
 ghost use Rattle.listing.specs.Wrote.{Wrote};
 
 // The most bytes of each line: a byte has 3 digits, 32 bits have 10 and a sign, a count or a place 20.
 pub const LONGEST_HEAD: usize = 27;
 
-pub const LONGEST_LINE: usize = 43;
+pub const LONGEST_RECORD_LINE: usize = 43;
 
 pub const LONGEST_ALARM: usize = 52;
 
@@ -28,9 +28,9 @@ const LINE_FEED: u8 = b'\n';
 
 // "kind, flags, X, Z and value"
 fn put_record(out: &mut [u8], at: usize, what: Record) -> usize
-    requires { ⌜ at + longestLine ≤ length (now out) ⌝ }
+    requires { ⌜ at + longestRecordLine ≤ length (now out) ⌝ }
     ensures written { λ r. ⌜ Wrote (now (out .entry)) at (recordLine what) r (now (out .exit)) ⌝ }
-    ensures short { λ r. ⌜ r ≤ at + longestLine ⌝ }
+    ensures short { λ r. ⌜ r ≤ at + longestRecordLine ⌝ }
 {
     let flags = put_number(out, at, what.kind as usize, SPACE);
     let x = put_number(out, flags, what.flags as usize, SPACE);
@@ -41,9 +41,9 @@ fn put_record(out: &mut [u8], at: usize, what: Record) -> usize
 
 // A line for each of the first so many records of a list.
 fn put_records(list: &[u8], count: usize, out: &mut [u8], at: usize) -> usize
-    requires { ⌜ (count ≤ roomOf (length (now list))) × (at + longestLine * count ≤ length (now out)) ⌝ }
+    requires { ⌜ (count ≤ roomOf (length (now list))) × (at + longestRecordLine * count ≤ length (now out)) ⌝ }
     ensures written { λ r. ⌜ Wrote (now (out .entry)) at (recordLines (recordsIn (now (list .entry)) 0 count)) r (now (out .exit)) ⌝ }
-    ensures short { λ r. ⌜ r ≤ at + longestLine * count ⌝ }
+    ensures short { λ r. ⌜ r ≤ at + longestRecordLine * count ⌝ }
 {
     let mut next = at;
     let mut k = 0;
@@ -75,7 +75,7 @@ fn put_list(count: usize, list: &[u8], out: &mut [u8]) -> usize
     if count > moves::list::room(list.len()) {
         return 0;
     }
-    if out.len() < LONGEST_HEAD + LONGEST_LINE * count {
+    if out.len() < LONGEST_HEAD + LONGEST_RECORD_LINE * count {
         return 0;
     }
     let first = put_head(out, count);

@@ -28,7 +28,7 @@ pub fn put_text(out: &mut [u8], at: usize, text: &[u8]) -> usize
     to
 }
 
-// The digits of a number above 0: those of its tens, and then the last one. (Of 0 there are none: `put_decimal` knows better.)
+// The digits of a number above 0: those of its tens, and then the last one. (Of 0 there are none; `put_decimal` writes its one digit.)
 fn put_digits(out: &mut [u8], at: usize, n: usize) -> usize
     requires { ⌜ at + length (digits n) ≤ length (now out) ⌝ }
     ensures { λ r. ⌜ Wrote (now (out .entry)) at (digits n) r (now (out .exit)) ⌝ }

@@ -15,7 +15,7 @@ use Rattle.interpreter.specs.Answers.{countOf, answerOf, bufferOf}
 use Rattle.interpreter.specs.declared.interpret.Answer.{Answer}
 use Rattle.interpreter.specs.declared.interpret.Answer.the-variants.{Complete, Alarm}
 use Rattle.demands.proofs.Holding.{demand-one}
-use Rattle.listing.specs.Listing.{longestHead, longestLine, longestAlarm, isMade, listingOf, textOf}
+use Rattle.listing.specs.Listing.{longestHead, longestRecordLine, longestAlarm, isMade, listingOf, textOf}
 use Rattle.listmoves.specs.Printed.{settings, noOffsets, freshBuffer, printed, textSize}
 
 fresh-size : length freshBuffer ≡ recordStart recordLimit
@@ -30,7 +30,7 @@ room-is e = ap roomOf e
 all-made : (a : Answer) (bytes room : ℕ) → countOf a ≤ recordLimit → bytes ≡ recordStart recordLimit → textSize ≤ room → isMade a bytes room ≡ true
 unfolding isMade
 all-made (Complete n) bytes room c e h =
-    rw (le-leb n (roomOf bytes) (omega (arith, c, room-is e)), le-leb (longestHead + longestLine * n) room (omega (arith, c, h))) refl
+    rw (le-leb n (roomOf bytes) (omega (arith, c, room-is e)), le-leb (longestHead + longestRecordLine * n) room (omega (arith, c, h))) refl
 all-made (Alarm alarm place n) bytes room c e h = le-leb longestAlarm room (omega (arith, h))
 
 made-text : (a : Answer) (list : List ℕ) (room : ℕ) → isMade a (length list) room ≡ true → textOf a list room ≡ listingOf a list

@@ -16,7 +16,7 @@ const BUFFER: usize = moves::HEADER_SIZE + moves::RECORD_SIZE * moves::RECORD_LI
 
 // The longest listing of so many.
 const TEXT: usize = listing::lines::LONGEST_HEAD
-    + listing::lines::LONGEST_LINE * moves::RECORD_LIMIT;
+    + listing::lines::LONGEST_RECORD_LINE * moves::RECORD_LIMIT;
 
 // "with main 1, lowest subroutine 80, retract 500, start X 60000 Z 50000, limits -200000 to 200000, table zero"
 fn settings() -> Settings

@@ -18,7 +18,7 @@ ghost use Rattle.deeds.specs.Judge.{Near};
 ghost use Rattle.machine.specs.Known.{InRange};
 ghost use Rattle.machine.specs.Blocks.{sendingOf, deedIn, askedIn, recordsOf, didOf};
 
-// The settings of a control. (01: "Settings: main program number; lowest subroutine number; retract; start position; soft limits".)
+// The settings of a control. (01: "Settings: main program number; lowest subroutine number ..; retract ..; start position; soft limits X and Z, lowest and highest".)
 pub struct Settings {
     pub main: u32,
     pub lowest: u32,

@@ -23,13 +23,20 @@ pub record History : Type 0 where
 abbrev pub nothingRead : History
 nothingRead = record { programs = []; blocks = [] }
 
+-- the highest program number, and how many blocks a program may have
+abbrev pub highestProgram : ℕ
+highestProgram = 6_999
+
+abbrev pub mostBlocks : ℕ
+mostBlocks = 10_000
+
 -- alarms 6, 8 and 9 of a line, in this order; 0 for none. The last argument: whether the line breaks a word rule
 unfoldable pub headAlarm : History → Head → Bool → ℕ
 headAlarm h Blank broken = 0
 headAlarm h Other broken = badLineStart
-headAlarm h (ProgramLine n) broken = cond (ltb 6_999 n || among n (h .programs)) badLineStart (cond broken wordRules 0)
+headAlarm h (ProgramLine n) broken = cond (ltb highestProgram n || among n (h .programs)) badLineStart (cond broken wordRules 0)
 headAlarm h (BlockLine n) broken =
-    cond (among n (h .blocks)) badLineStart (cond (leb 10_000 (length (h .blocks))) tooManyBlocks (cond broken wordRules 0))
+    cond (among n (h .blocks)) badLineStart (cond (leb mostBlocks (length (h .blocks))) tooManyBlocks (cond broken wordRules 0))
 
 -- a line's alarm: 7 or 5, which it shows by itself, else 6, 8 or 9, else 0
 unfoldable pub lineAlarm : History → Judged → ℕ

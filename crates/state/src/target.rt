@@ -16,7 +16,7 @@ pub struct Pair {
 }
 
 // Pair i of the table, from 1; none for 0. The shifts are pairs 1 to 5, the tool corrections 1 to 99 are pairs 6 to 104.
-pub fn pair_of(table: &[i32], i: usize) -> Pair
+fn pair_of(table: &[i32], i: usize) -> Pair
     requires { ⌜ Table (now table) × (i ≤ 104) ⌝ }
     ensures { λ r. ⌜ r ≡ pairOf (now (table .entry)) i ⌝ }
 {

@@ -1,3 +1,3 @@
--- The laws of this crate, for the crates above it.
+-- The laws of this crate, for the crates built on it.
 pub mod Places
 pub mod Stepping

@@ -1,5 +1,5 @@
--- What lies ahead of a block. 01: "Running a program runs its blocks". "At most ten calls deep. M17 returns. G27 goes to the block numbered L of the same program." Alarms: 14 "M17 in the main
--- program, M30 in a subprogram, program ends without either", 10 "called number outside lowest subroutine to 255 (001: alarm 630) or missing", 11 "jump target missing", 12 "eleventh call deep".
+-- What lies ahead of a block. 01: "At most ten calls deep. M17 returns. G27 goes to the block numbered L of the same program." Alarms: 14 "M17 in the main
+-- program, M30 in a subprogram", 10 "called number outside lowest subroutine to 255 (001: alarm 630) or missing", 11 "jump target missing", 12 "eleventh call deep".
 use mathlib.Core.Bool.{cond, _||_}
 use mathlib.Core.List.{List}
 use Prim.Native.Nat.{ℕ}
@@ -18,6 +18,10 @@ use Rattle.steps.specs.declared.ahead.What.the-variants.{On, Call, Jump,
 abbrev pub mostCalls : ℕ
 mostCalls = 10
 
+-- the highest subroutine number
+abbrev pub highestSubroutine : ℕ
+highestSubroutine = 255
+
 -- a called program that was looked for, with so many calls left: 10 before 12
 unfoldable pub calledAt : Found → ℕ → ℕ → ℕ → What
 calledAt Nowhere calls times at = Stop programMissing at
@@ -32,7 +36,7 @@ jumpedTo (At p) at = Jump p
 unfoldable pub lookedUp : List ℕ → ℕ → ℕ → ℕ → ℕ → ℕ → Next → What
 lookedUp tape first lowest program calls at next.On = On
 lookedUp tape first lowest program calls at (next.Call n times) =
-    cond (ltb n lowest || ltb 255 n) (Stop programMissing at) (calledAt (findProgram n (lines tape first)) calls times at)
+    cond (ltb n lowest || ltb highestSubroutine n) (Stop programMissing at) (calledAt (findProgram n (lines tape first)) calls times at)
 lookedUp tape first lowest program calls at (next.Jump n) = jumpedTo (blockOfProgram n tape program) at
 lookedUp tape first lowest program calls at next.Return = cond (eqb calls mostCalls) (Stop wrongEnd at) Return
 lookedUp tape first lowest program calls at next.End = cond (eqb calls mostCalls) End (Stop wrongEnd at)

@@ -10,7 +10,7 @@ ghost use Rattle.steps.specs.Ahead.{calledAt, jumpedTo, lookedUp};
 pub const MOST_CALLS: u32 = 10;
 
 // The highest subroutine number.
-const HIGHEST_SUBROUTINE: u32 = 255;
+pub const HIGHEST_SUBROUTINE: u32 = 255;
 
 // What a block asks of the runner, with the places on the tape: the line of the program that is called and how often it runs, the line of the block that is jumped to; or
 // an alarm with its place.

@@ -1,3 +1,3 @@
--- The definitions that the contracts of this program cite.
+-- The definitions that the contracts of this crate cite.
 pub mod Texts
 pub mod Given

@@ -18,7 +18,7 @@ use mir.Val.{SFits}
 use Rattle.tape.specs.declared.number.Digits.{Digits}
 use Rattle.tape.specs.declared.number.Number.the-variants.{Value, Bad}
 use Rattle.tape.specs.Letters.{plus, minus, point}
-use Rattle.tape.specs.Numbers.{isDigit, digitsOf, Run, signedOf, millimetres, behindDigits, unsignedPath, pathOf, allDigits, digitsIn}
+use Rattle.tape.specs.Numbers.{isDigit, digitsOf, Run, withSign, millimetres, behindDigits, unsignedPath, pathOf, allDigits, digitsIn}
 
 -- ---- a byte as a digit
 pub low-no : (b : ℕ) → b < 48 → isDigit b ≡ false
@@ -102,7 +102,7 @@ module _ (negative : Bool) (s : List ℕ) (at : ℕ) (d : Digits) (r : Run s at 
   unfolding unsignedPath
   path-here = rw (← r .is, drop-drop (d .count) at s)
 
-  pub path-end : length s ≤ at + d .count → unsignedPath negative (drop at s) ≡ cond (ltb 0 (d .count)) (Value (signedOf negative (d .value)) false) Bad
+  pub path-end : length s ≤ at + d .count → unsignedPath negative (drop at s) ≡ cond (ltb 0 (d .count)) (Value (withSign negative (d .value)) false) Bad
   path-end h = path-here ∙ rw (drop-of-length-le s)
 
   pub path-other : at + d .count < length s → (eqb (getD s (at + d .count) 0) point && leb (d .count) 4) ≡ false → unsignedPath negative (drop at s) ≡ Bad
@@ -126,7 +126,7 @@ module _ (negative : Bool) (s : List ℕ) (at : ℕ) (d : Digits) (r : Run s at 
       path-bare z = path-point ∙ rw (eq-eqb _ _ ends, z)
 
       pub path-good : (d .count + f .count ≡ 0 → ⊥)
-          → unsignedPath negative (drop at s) ≡ Value (signedOf negative (d .value * 1000 + f .value * 10 ^ (3 - f .count))) true
+          → unsignedPath negative (drop at s) ≡ Value (withSign negative (d .value * 1000 + f .value * 10 ^ (3 - f .count))) true
       path-good z = path-point ∙ rw (eq-eqb _ _ ends, lt-ltb 0 (d .count + f .count) (omega arith))
 
 -- ---- the sign

@@ -13,7 +13,7 @@ use lib.Seq.{drop-cons}
 use Rattle.tape.specs.declared.line.Line.{Line}
 use Rattle.tape.specs.declared.line.Gap.the-variants.{At, Fault}
 use Rattle.tape.specs.Letters.{cr, space, opening, closing}
-use Rattle.tape.specs.Lines.{seekFrom, isFeed, lineAt, LineIn, onBy, gapOf, GapIn, Text, textAt, linesUp, lines}
+use Rattle.tape.specs.Lines.{seekFrom, isLineFeed, lineAt, LineIn, onBy, gapOf, GapIn, Text, textAt, linesUp, lines}
 use Rattle.tape.proofs.Scanning.{scan-within}
 
 -- one law for each way on and each way out of a gap
@@ -78,8 +78,8 @@ module _ (s : List ℕ) (i : ℕ) (h : i ≤ length s) where
   pub line-in : LineIn (lineAt s i) i (length s)
   unfolding lineAt
   line-in =
-      let n = seekFrom isFeed s i in
-      by n (ltb n (length s)) refl (ltb i n) (eqb (getD s (n - 1) 0) cr) refl (omega arith) (scan-within isFeed s i h)
+      let n = seekFrom isLineFeed s i in
+      by n (ltb n (length s)) refl (ltb i n) (eqb (getD s (n - 1) 0) cr) refl (omega arith) (scan-within isLineFeed s i h)
     where
       by : (n : ℕ) (t : Bool) → ltb n (length s) ≡ t → (u v : Bool) → ltb i n ≡ u → i ≤ n → n ≤ length s
           → LineIn (cond t (record { stop = cond (u && v) (n - 1) n; after = n + 1 }) (record { stop = n; after = n })) i (length s)

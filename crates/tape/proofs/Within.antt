@@ -26,7 +26,7 @@ use Rattle.tape.specs.declared.word.Word as w
 use Rattle.tape.specs.Letters.{plus, minus, point, equals, letterD, letterP}
 use Rattle.tape.specs.Lines.{seekFrom, gapOf}
 use Rattle.tape.specs.Words.{capital, endsNumber, kindOf, wordBy, numberWord, indexedWord, addressed, wordAt, behindGap, nextWord}
-use Rattle.tape.specs.Numbers.{isDigit, digitsOf, signedOf, millimetres, behindDigits, unsignedPath, pathOf, allDigits, digitsIn, numberOf}
+use Rattle.tape.specs.Numbers.{isDigit, digitsOf, withSign, millimetres, behindDigits, unsignedPath, pathOf, allDigits, digitsIn, numberOf}
 use Rattle.tape.proofs.Digits.{behind-point, ten-more, ten-up}
 
 -- a number that is not negative, and below a bound
@@ -78,7 +78,7 @@ digits-few (suc k) (b ∷ s) v n h =
     (λ t. rw e at (digits-few k s (v * 10 + (b - 48)) (n + 1) (omega (arith, and-le (leb 48 b) b 57 t, ten-more n))))
     (record { few = omega arith; small = h })
 
-signed-in : (negative : Bool) (v : ℕ) → v < 10_000_000 → InTable (signedOf negative v)
+signed-in : (negative : Bool) (v : ℕ) → v < 10_000_000 → InTable (withSign negative v)
 signed-in true v h = let u = up-neg (pos v) in let d = down-neg (pos v) in record { low = omega whole; high = omega whole }
 signed-in false v h = record { low = omega whole; high = omega whole }
 

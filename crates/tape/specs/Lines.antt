@@ -23,14 +23,14 @@ seekFrom t s i = i + seek t (drop i s)
 unfoldable pub opensTape : ℕ → Bool
 opensTape b = eqb b percent || (eqb b letterO || eqb b 111)
 
-unfoldable pub isFeed : ℕ → Bool
-isFeed b = eqb b lf
+unfoldable pub isLineFeed : ℕ → Bool
+isLineFeed b = eqb b lf
 
 -- the line that begins at a place. With n the place of its LF: the text ends at n, or at n - 1 where a CR of the line stands there; the next line
 -- begins behind the LF. A line without LF ends with the tape
 unfoldable pub lineAt : List ℕ → ℕ → Line
 lineAt s i =
-    let n = seekFrom isFeed s i in
+    let n = seekFrom isLineFeed s i in
     cond (ltb n (length s))
     (record { stop = cond (ltb i n && eqb (getD s (n - 1) 0) cr) (n - 1) n; after = n + 1 })
     (record { stop = n; after = n })

@@ -33,18 +33,18 @@ pub record Run (s : List ℕ) (at limit : ℕ) (r : Digits) : Type 0 where
   pub small : r .value < 10 ^ r .count
 
 -- a number with its sign
-abbrev pub signedOf : Bool → ℕ → ℤ
-signedOf true v = negℤ (pos v)
-signedOf false v = pos v
+abbrev pub withSign : Bool → ℕ → ℤ
+withSign true v = negℤ (pos v)
+withSign false v = pos v
 
 -- behind the digits d and a point stand the digits f, and then nothing; d and f together have one digit at least. The value is millimetres
 abbrev pub millimetres : Bool → Digits → Digits → List ℕ → Number
 millimetres negative d f s =
-    cond (eqb (f .count) (length s) && ltb 0 (d .count + f .count)) (Value (signedOf negative (d .value * 1000 + f .value * 10 ^ (3 - f .count))) true) Bad
+    cond (eqb (f .count) (length s) && ltb 0 (d .count + f .count)) (Value (withSign negative (d .value * 1000 + f .value * 10 ^ (3 - f .count))) true) Bad
 
 -- behind the digits d: nothing, and the value is micrometres; or, behind at most 4 digits, a point and at most 3 more
 abbrev pub behindDigits : Bool → Digits → List ℕ → Number
-behindDigits negative d [] = cond (ltb 0 (d .count)) (Value (signedOf negative (d .value)) false) Bad
+behindDigits negative d [] = cond (ltb 0 (d .count)) (Value (withSign negative (d .value)) false) Bad
 behindDigits negative d (b ∷ s) = cond (eqb b point && leb (d .count) 4) (millimetres negative d (digitsOf 3 s 0 0) s) Bad
 
 -- a path number behind its sign

@@ -4,7 +4,7 @@ ghost use mathlib.Core.Path.{_≡_};
 ghost use mathlib.Core.Bool.{false};
 ghost use Prim.Native.Nat.{_≤_};
 ghost use lib.ListN.{length, drop};
-ghost use Rattle.tape.specs.Lines.{seekFrom, isFeed, opensTape, lineAt, LineIn, gapOf, GapIn};
+ghost use Rattle.tape.specs.Lines.{seekFrom, isLineFeed, opensTape, lineAt, LineIn, gapOf, GapIn};
 
 // A line: where its text ends, and where the next line begins.
 pub struct Line {
@@ -37,9 +37,9 @@ pub fn first_line(tape: &[u8]) -> usize
 }
 
 // The place of the first LF from `from` on, or the tape's length.
-fn find_feed(tape: &[u8], from: usize) -> usize
+fn find_line_feed(tape: &[u8], from: usize) -> usize
     requires { ⌜ from ≤ length (now tape) ⌝ }
-    ensures { λ r. ⌜ (r ≡ seekFrom isFeed (now (tape .entry)) from) × (from ≤ r) × (r ≤ length (now (tape .entry))) ⌝ }
+    ensures { λ r. ⌜ (r ≡ seekFrom isLineFeed (now (tape .entry)) from) × (from ≤ r) × (r ≤ length (now (tape .entry))) ⌝ }
 {
     let mut i = from;
     let r = loop {
@@ -59,7 +59,7 @@ pub fn line_at(tape: &[u8], from: usize) -> Line
     requires { ⌜ from ≤ length (now tape) ⌝ }
     ensures { λ r. ⌜ (r ≡ lineAt (now (tape .entry)) from) × LineIn r from (length (now (tape .entry))) ⌝ }
 {
-    let feed = find_feed(tape, from);
+    let feed = find_line_feed(tape, from);
     if feed >= tape.len() {
         return Line {
             stop: feed,

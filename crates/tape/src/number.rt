@@ -3,7 +3,7 @@
 ghost use mathlib.Core.Path.{_≡_};
 ghost use Prim.Native.Nat.{_-_, _^_, _≤_, _<_};
 ghost use lib.ListN.{length, drop};
-ghost use Rattle.tape.specs.Numbers.{Run, signedOf, unsignedPath, pathOf, digitsIn, numberOf};
+ghost use Rattle.tape.specs.Numbers.{Run, withSign, unsignedPath, pathOf, digitsIn, numberOf};
 
 // The kinds of numbers: a path's (X Z U W P); digits alone, two (G M), four (N F S T and program numbers) or five (L); and D's.
 pub enum Kind {
@@ -74,7 +74,7 @@ fn worth(m: usize) -> u32
 
 fn with_sign(negative: bool, v: u32) -> i32
     requires { ⌜ v < 10_000_000 ⌝ }
-    ensures { λ r. ⌜ r ≡ signedOf negative v ⌝ }
+    ensures { λ r. ⌜ r ≡ withSign negative v ⌝ }
 {
     if negative { 0 - (v as i32) } else { v as i32 }
 }

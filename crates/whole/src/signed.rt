@@ -44,7 +44,7 @@ pub fn side_of(from: i32, to: i32) -> Side
 }
 
 // Where a step of a length to a side leads, however far.
-pub fn reach(from: i32, side: Side, by: u32) -> i64
+fn reach(from: i32, side: Side, by: u32) -> i64
     ensures { λ r. ⌜ r ≡ from +ℤ along side by ⌝ }
 {
     match side {

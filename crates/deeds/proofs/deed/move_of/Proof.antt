@@ -16,8 +16,8 @@ has-path-requires c κs = search needs
 enum-told : tie.Need-enum-told
 enum-told c = search needs
 
-setting-requires : tie.Need-setting-requires
-setting-requires c κs = search needs
+d-word-requires : tie.Need-d-word-requires
+d-word-requires c κs = search needs
 
 enum-told-2 : tie.Need-enum-told-2
 enum-told-2 c = search needs
@@ -75,7 +75,7 @@ returns-4 : tie.Need-returns-4
 unfolding moveOf
 returns-4 c =
     let a = c .before .before .before .before .args in
-    ap Dwell (c .setting .ensures .0) ∙ move-by (a .b) (a .s) (c .before .enum-told .given .1)
+    ap Dwell (c .d-word .ensures .0) ∙ move-by (a .b) (a .s) (c .before .enum-told .given .1)
 
 returns-5 : tie.Need-returns-5
 unfolding moveOf
@@ -119,7 +119,7 @@ move-of-spec =
     (tie.spec
     has-path-requires
     enum-told
-    setting-requires
+    d-word-requires
     enum-told-2
     cycle-of-requires
     enum-told-3

@@ -6,7 +6,7 @@ use borrow.Author.Needs.{needs}
 use lib.ListN.{length}
 use Rattle.moves.specs.Form.{recordStart, recordSize}
 use Rattle.moves.specs.Reading.{recordsIn}
-use Rattle.listing.specs.Listing.{recordLines, longestLine}
+use Rattle.listing.specs.Listing.{recordLines, longestRecordLine}
 use Rattle.listing.proofs.Made.{records-begin, record-next, records-made}
 use Rattle.listing.proofs.Reading.{held}
 use Rattle.listing.proofs.Writing.{Going, kept}
@@ -15,7 +15,7 @@ use Rattle.listing.proofs.lines.put_records.Tie as tie
 
 abbrev Inv-loop : tie.InvT-loop
 Inv-loop list count out₀ at next₀ k₀ out next k =
-    (k ≤ count) × (next ≤ at + longestLine * k) × Going out₀ at (recordLines (recordsIn list 0 count)) out next (recordLines (recordsIn list k (count - k)))
+    (k ≤ count) × (next ≤ at + longestRecordLine * k) × Going out₀ at (recordLines (recordsIn list 0 count)) out next (recordLines (recordsIn list k (count - k)))
 
 abbrev μ-loop : tie.MeasureT-loop
 μ-loop list count out₀ at next₀ k₀ out next k = count - k

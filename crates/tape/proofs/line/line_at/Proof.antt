@@ -7,15 +7,15 @@ use Rattle.tape.proofs.Lining.{line-by}
 use Rattle.tape.proofs.line.line_at.Statement.{statement}
 use Rattle.tape.proofs.line.line_at.Tie as tie
 
-find-feed-requires : tie.Need-find-feed-requires
-find-feed-requires c κs = search needs
+find-line-feed-requires : tie.Need-find-line-feed-requires
+find-line-feed-requires c κs = search needs
 
 returns : tie.Need-returns
 unfolding lineAt
 returns c =
     let a = c .before .before .before .args in
     line-by (a .tape .now) (a .from) (c .before .before .before .pre)
-    (rw (← c .before .find-feed .ensures .0, le-ltb _ _ (c .if1 .taken)))
+    (rw (← c .before .find-line-feed .ensures .0, le-ltb _ _ (c .if1 .taken)))
 
 add-t6 : tie.Need-add-t6
 add-t6 c = search needs
@@ -25,7 +25,7 @@ unfolding lineAt
 returns-2 c =
     let a = c .before .before .before .before .args in
     line-by (a .tape .now) (a .from) (c .before .before .before .before .pre)
-    (rw (← c .before .before .find-feed .ensures .0, lt-ltb _ _ (c .before .if1 .left), le-ltb _ _ (c .if2 .taken)))
+    (rw (← c .before .before .find-line-feed .ensures .0, lt-ltb _ _ (c .before .if1 .left), le-ltb _ _ (c .if2 .taken)))
 
 sub-if3 : tie.Need-sub-if3
 sub-if3 c = search needs
@@ -45,7 +45,7 @@ returns-3 c =
     let o = c .before .before .before in
     let a = o .before .before .before .args in
     line-by (a .tape .now) (a .from) (o .before .before .before .pre)
-    (rw (← o .before .find-feed .ensures .0, lt-ltb _ _ (o .if1 .left), lt-ltb _ _ (c .before .before .if2 .left), eq-eqb _ _ (c .if3 .taken)))
+    (rw (← o .before .find-line-feed .ensures .0, lt-ltb _ _ (o .if1 .left), lt-ltb _ _ (c .before .before .if2 .left), eq-eqb _ _ (c .if3 .taken)))
 
 add-t4 : tie.Need-add-t4
 add-t4 c = search needs
@@ -56,13 +56,13 @@ returns-4 c =
     let o = c .before .before .before in
     let a = o .before .before .before .args in
     line-by (a .tape .now) (a .from) (o .before .before .before .pre)
-    (rw (← o .before .find-feed .ensures .0, lt-ltb _ _ (o .if1 .left), lt-ltb _ _ (c .before .before .if2 .left), ne-eqb _ _ (c .if3 .left)))
+    (rw (← o .before .find-line-feed .ensures .0, lt-ltb _ _ (o .if1 .left), lt-ltb _ _ (c .before .before .if2 .left), ne-eqb _ _ (c .if3 .left)))
 
 pub line-at-spec : {M : Type 1} → statement M
 line-at-spec =
     tie.close
     (tie.spec
-    find-feed-requires
+    find-line-feed-requires
     returns
     add-t6
     returns-2

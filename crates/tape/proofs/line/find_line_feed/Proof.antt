@@ -1,17 +1,17 @@
--- `tape::line::find_feed` meets its contract.
+-- `tape::line::find_line_feed` meets its contract.
 -- The loop's invariant: the scan from `from` on comes to what the scan from `i` on comes to.
 use Prim.Native.Nat.{_-_, _≤_}
 use mathlib.Core.Path.{_≡_, refl, sym, _∙_}
 use native.Mathlib.Omega.{arith}
 use borrow.Author.Tests.{eq-eqb, ne-eqb}
 use lib.ListN.{length}
-use Rattle.tape.specs.Lines.{seekFrom, isFeed}
+use Rattle.tape.specs.Lines.{seekFrom, isLineFeed}
 use Rattle.tape.proofs.Scanning.{scan-end, scan-hit, scan-more}
-use Rattle.tape.proofs.line.find_feed.Statement.{statement}
-use Rattle.tape.proofs.line.find_feed.Tie as tie
+use Rattle.tape.proofs.line.find_line_feed.Statement.{statement}
+use Rattle.tape.proofs.line.find_line_feed.Tie as tie
 
 abbrev Inv-loop : tie.InvT-loop
-Inv-loop tape from i₀ i = (from ≤ i) × (i ≤ length tape) × (seekFrom isFeed tape from ≡ seekFrom isFeed tape i)
+Inv-loop tape from i₀ i = (from ≤ i) × (i ≤ length tape) × (seekFrom isLineFeed tape from ≡ seekFrom isLineFeed tape i)
 
 abbrev μ-loop : tie.MeasureT-loop
 μ-loop tape from i₀ i = length tape - i
@@ -29,27 +29,27 @@ loop-less : tie.Need-loop-less Inv-loop μ-loop
 loop-less c = omega arith
 
 loop-again : tie.Need-loop-again Inv-loop μ-loop
-unfolding isFeed
+unfolding isLineFeed
 loop-again c =
     let s = c .before .before .before .before .args .tape .now in
     let l = c .before .before .before .loop in
-    (omega arith, omega arith, l .inv .2 ∙ scan-more isFeed s (l .i) (omega arith) (ne-eqb _ _ (c .if2 .left)))
+    (omega arith, omega arith, l .inv .2 ∙ scan-more isLineFeed s (l .i) (omega arith) (ne-eqb _ _ (c .if2 .left)))
 
 returns : tie.Need-returns Inv-loop μ-loop
 returns c =
     let s = c .before .before .args .tape .now in
     let l = c .before .loop in
-    (sym (l .inv .2 ∙ scan-end isFeed s (l .i) (c .if1 .taken)), l .inv .0, l .inv .1)
+    (sym (l .inv .2 ∙ scan-end isLineFeed s (l .i) (c .if1 .taken)), l .inv .0, l .inv .1)
 
 returns-2 : tie.Need-returns-2 Inv-loop μ-loop
-unfolding isFeed
+unfolding isLineFeed
 returns-2 c =
     let s = c .before .before .before .before .args .tape .now in
     let l = c .before .before .before .loop in
-    (sym (l .inv .2 ∙ scan-hit isFeed s (l .i) (omega arith) (eq-eqb _ _ (c .if2 .taken))), l .inv .0, l .inv .1)
+    (sym (l .inv .2 ∙ scan-hit isLineFeed s (l .i) (omega arith) (eq-eqb _ _ (c .if2 .taken))), l .inv .0, l .inv .1)
 
-pub find-feed-spec : {M : Type 1} → statement M
-find-feed-spec =
+pub find-line-feed-spec : {M : Type 1} → statement M
+find-line-feed-spec =
     tie.close
     (tie.spec
     Inv-loop
