@@ -12,7 +12,7 @@ use Rattle.block.specs.declared.words.Head.{Head}
 use Rattle.block.specs.declared.words.Head.the-variants.{Blank, ProgramLine, BlockLine, Other}
 use Rattle.block.specs.declared.words.Reading.{Reading}
 use Rattle.block.specs.declared.rules.Judged.{Judged}
-use Rattle.block.specs.Words.{pFirst, dFirst, lSlot, gFirst, lineOf}
+use Rattle.block.specs.Words.{xSlot, zSlot, uSlot, wSlot, pFirst, dFirst, lSlot, gFirst, lineOf}
 
 -- a word applies in the slot k
 unfoldable pub has : Block → ℕ → Bool
@@ -49,7 +49,7 @@ afterProgram b = not (eqb (b .words) 0)
 
 -- "not X with U, nor Z with W"
 unfoldable pub axisTwice : Block → Bool
-axisTwice b = (has b 0 && has b 2) || (has b 1 && has b 3)
+axisTwice b = (has b xSlot && has b uSlot) || (has b zSlot && has b wSlot)
 
 -- "a G25 or G27 block .. must have L, and no other block has L"
 unfoldable pub lWordWrong : Block → Bool
@@ -89,7 +89,7 @@ dWordWrong b = allowanceWrong b || (divisionWrong b || (dwellWrong b || (widthWr
 
 -- "G84 and G86 need one word of each axis"
 unfoldable pub axisMissing : Block → Bool
-axisMissing b = (groupZeroIs b 84 || groupZeroIs b 86) && not ((has b 0 || has b 2) && (has b 1 || has b 3))
+axisMissing b = (groupZeroIs b 84 || groupZeroIs b 86) && not ((has b xSlot || has b uSlot) && (has b zSlot || has b wSlot))
 
 -- "G86 also D5"
 unfoldable pub widthMissing : Block → Bool

@@ -23,7 +23,28 @@ use Rattle.block.specs.declared.words.Rest.{Rest}
 use Rattle.block.specs.declared.words.Reading.{Reading}
 use Rattle.block.specs.Codes.{gCode, mCode}
 
--- the slots: X Z U W F S T at 0 to 6, the groups of M from 7 on, P0 to P9 from 11 on, D0 to D9 from 21 on, L at 31, the groups of G from 32 on
+-- the slots: X Z U W F S T, the groups of M, P0 to P9, D0 to D9, L, the groups of G. U stands two behind X, and W two behind Z
+abbrev pub xSlot : ℕ
+xSlot = 0
+
+abbrev pub zSlot : ℕ
+zSlot = 1
+
+abbrev pub uSlot : ℕ
+uSlot = 2
+
+abbrev pub wSlot : ℕ
+wSlot = 3
+
+abbrev pub fSlot : ℕ
+fSlot = 4
+
+abbrev pub sSlot : ℕ
+sSlot = 5
+
+abbrev pub tSlot : ℕ
+tSlot = 6
+
 abbrev pub mFirst : ℕ
 mFirst = 7
 
@@ -51,13 +72,13 @@ numberIn w = natAbs (w .value)
 unfoldable pub slotOf : Word → Slot
 slotOf w =
     let a = w .address in
-    cond (eqb a letterX) (At 0)
-    (cond (eqb a letterZ) (At 1)
-    (cond (eqb a letterU) (At 2)
-    (cond (eqb a letterW) (At 3)
-    (cond (eqb a letterF) (At 4)
-    (cond (eqb a letterS) (At 5)
-    (cond (eqb a letterT) (At 6)
+    cond (eqb a letterX) (At xSlot)
+    (cond (eqb a letterZ) (At zSlot)
+    (cond (eqb a letterU) (At uSlot)
+    (cond (eqb a letterW) (At wSlot)
+    (cond (eqb a letterF) (At fSlot)
+    (cond (eqb a letterS) (At sSlot)
+    (cond (eqb a letterT) (At tSlot)
     (cond (eqb a letterL) (At lSlot)
     (cond (eqb a letterP) (At (pFirst + w .index))
     (cond (eqb a letterD) (At (dFirst + w .index))

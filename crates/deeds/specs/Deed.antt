@@ -7,7 +7,7 @@ use Prim.Native.Nat.{ℕ, _+_, _*_, _<_}
 use lib.Dec.{ltb}
 use lib.ListN.{getD}
 use Rattle.block.specs.Rules.{has}
-use Rattle.block.specs.Words.{dFirst}
+use Rattle.block.specs.Words.{xSlot, zSlot, uSlot, wSlot, dFirst}
 use Rattle.block.specs.declared.codes.Motion.{Motion}
 use Rattle.block.specs.declared.codes.Motion.the-variants as motion
 use Rattle.block.specs.declared.words.Block.{Block}
@@ -24,7 +24,7 @@ use Rattle.deeds.specs.declared.deed.Sending.{Sending}
 
 -- a path word: X U Z W
 unfoldable pub hasPath : Block → Bool
-hasPath b = (has b 0 || has b 2) || (has b 1 || has b 3)
+hasPath b = (has b xSlot || has b uSlot) || (has b zSlot || has b wSlot)
 
 -- where the word of an axis stands: that of X or U, and that of Z or W; a block has one of each at most, and the place of the other is 0
 abbrev pub placeOn : Block → ℕ → ℕ
@@ -32,7 +32,7 @@ placeOn b k = getD (b .place) k 0 + getD (b .place) (k + 2) 0
 
 -- "X or U before Z or W is longitudinal, else facing"
 unfoldable pub isFacing : Block → Bool
-isFacing b = ltb (placeOn b 1) (placeOn b 0)
+isFacing b = ltb (placeOn b zSlot) (placeOn b xSlot)
 
 -- the D word of an index; "Missing D0 and D2 are 0"
 abbrev pub dWord : Block → ℕ → ℕ

@@ -25,7 +25,7 @@ use Rattle.steps.specs.Steps.{Task, taskOf, Step, blockOn, runAfter}
 use Rattle.steps.specs.declared.step.Run.{Run}
 use Rattle.steps.proofs.Stepping.{worded-on}
 use Rattle.interpreter.specs.Answers.{Result, refused, answerBy, resultOf, startOf, whole, headed, laidBy}
-use Rattle.interpreter.specs.Runs.{recordsOf, programRun}
+use Rattle.runners.specs.Runs.{recordsOf, programRun}
 use Rattle.interpreter.specs.declared.interpret.Answer.{Answer}
 use Rattle.interpreter.specs.declared.interpret.Answer.the-variants.{Complete, Alarm}
 use Rattle.demands.specs.Demands.{Each, EveryCycle, EachFrom, lastOf, CutIn, task, Front, DemandThreeInBuffer}

@@ -12,7 +12,7 @@ use Rattle.machine.specs.Opens.{cycleIn}
 use Rattle.machine.proofs.Opening.{block-turned}
 use Rattle.steps.specs.Steps.{Task, Step, blockOn, runAfter}
 use Rattle.steps.specs.declared.step.Run.{Run}
-use Rattle.interpreter.specs.Runs.{recordsOf}
+use Rattle.runners.specs.Runs.{recordsOf}
 use Rattle.demands.specs.Steps.{Done, Linked}
 use Rattle.demands.specs.Demands.{Each, Cut, EveryCycle}
 use Rattle.demands.proofs.Linked.{free-own}

@@ -10,9 +10,9 @@ use Rattle.machine.specs.declared.run.Settings.{Settings}
 use Rattle.steps.specs.Ahead.{mostCalls}
 use Rattle.steps.specs.Steps.{Task, taskOf}
 use Rattle.interpreter.specs.Answers.{countOf, Result, refused, answerBy, resultOf, startOf, whole}
-use Rattle.interpreter.specs.Runs.{recordsOf, programRun}
-use Rattle.interpreter.specs.declared.run.How.{How}
-use Rattle.interpreter.specs.declared.run.How.the-variants.{Returned, Ended, Stopped}
+use Rattle.runners.specs.Runs.{recordsOf, programRun}
+use Rattle.runners.specs.declared.run.How.{How}
+use Rattle.runners.specs.declared.run.How.the-variants.{Returned, Ended, Stopped}
 use Rattle.demands.specs.Demands.{Each, EveryCycle, task, DemandThree}
 use Rattle.demands.proofs.Cycles.{every-cycle, counted}
 use Rattle.demands.proofs.Linked.{program-leads}

@@ -15,7 +15,7 @@ use Rattle.whole.proofs.Positions.{in-range}
 use Rattle.moves.specs.Form.{Fitting, AllFitting}
 use Rattle.moves.specs.declared.record.Record.{Record}
 use Rattle.block.specs.Rules.{has}
-use Rattle.block.specs.Words.{mFirst, dFirst}
+use Rattle.block.specs.Words.{fSlot, sSlot, tSlot, mFirst, dFirst}
 use Rattle.block.specs.Worded.{Worded}
 use Rattle.block.specs.declared.codes.Motion.the-variants as motion
 use Rattle.block.specs.declared.words.Block.{Block}
@@ -23,7 +23,7 @@ use Rattle.turning.specs.declared.cycle.Cycle.{Cycle}
 use Rattle.turning.proofs.Counts as turn
 use Rattle.grooving.specs.declared.groove.Groove.{Groove}
 use Rattle.grooving.proofs.Counts as groove
-use Rattle.state.specs.Modal.{fSlot, tSlot, codeIn, feedAfter, blockMotion, settled}
+use Rattle.state.specs.Modal.{codeIn, feedAfter, blockMotion, settled}
 use Rattle.state.specs.Target.{offsetOf, targetX, targetZ, Table, Sound}
 use Rattle.state.specs.declared.modal.Kept.{Kept}
 use Rattle.state.specs.declared.modal.Kept.the-variants as kept
@@ -37,7 +37,7 @@ use Rattle.deeds.specs.declared.deed.Sending.{Sending}
 use Rattle.deeds.proofs.Judging.{lengths-turn, lengths-groove}
 use Rattle.machine.specs.Blocks.{sendingOf, deedIn, alarmIn, doneRecords, doneState}
 use Rattle.machine.specs.Known.{InRange}
-use Rattle.machine.specs.Writes.{sSlot, oneIf, speedOf, toolOf, mOf, dwellOf, speedAndTool, spindleAndCoolant, doing, moved, done, stops, stopping, writes}
+use Rattle.machine.specs.Writes.{oneIf, speedOf, toolOf, mOf, dwellOf, speedAndTool, spindleAndCoolant, doing, moved, done, stops, stopping, writes}
 use Rattle.machine.specs.declared.run.Settings.{Settings}
 use Rattle.machine.proofs.Running.{all-passed, sound-after}
 

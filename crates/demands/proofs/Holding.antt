@@ -22,11 +22,11 @@ use Rattle.steps.specs.Ahead.{mostCalls}
 use Rattle.steps.specs.Steps.{Task, taskOf, Step, blockOn, runAfter}
 use Rattle.steps.specs.declared.step.Run.{Run}
 use Rattle.interpreter.specs.Answers.{countOf, Result, refused, answerBy, resultOf, startOf, longestTape, whole, headed, laidBy}
-use Rattle.interpreter.specs.Runs.{recordsOf, programRun}
+use Rattle.runners.specs.Runs.{recordsOf, programRun}
 use Rattle.interpreter.specs.declared.interpret.Answer.{Answer}
 use Rattle.interpreter.specs.declared.interpret.Answer.the-variants.{Complete, Alarm}
-use Rattle.interpreter.specs.declared.run.How.{How}
-use Rattle.interpreter.specs.declared.run.How.the-variants.{Returned, Ended, Stopped}
+use Rattle.runners.specs.declared.run.How.{How}
+use Rattle.runners.specs.declared.run.How.the-variants.{Returned, Ended, Stopped}
 use Rattle.demands.specs.Demands.{Front, IsAlarm, HoldsAfter, Told, Owed, IsList, DemandOne, DemandTwo}
 use Rattle.demands.specs.Steps.{Linked}
 use Rattle.demands.proofs.Buffers.{AllFit, chain-fits, Form, form}

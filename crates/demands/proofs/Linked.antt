@@ -20,9 +20,9 @@ use Rattle.steps.specs.declared.step.Did.{Did}
 use Rattle.steps.specs.declared.step.Run.{Run}
 use Rattle.steps.proofs.Places.{FoundIn, first-on, WhatOn}
 use Rattle.steps.proofs.Stepping.{what-on}
-use Rattle.interpreter.specs.Runs.{Ran, ran, pre, goBack, andThen, goOn, onward, blocks, enough, repeated, called, programRun}
-use Rattle.interpreter.specs.declared.run.How.{How}
-use Rattle.interpreter.specs.declared.run.How.the-variants.{Returned, Ended, Stopped}
+use Rattle.runners.specs.Runs.{Ran, ran, pre, goBack, andThen, goOn, onward, blocks, enough, repeated, called, programRun}
+use Rattle.runners.specs.declared.run.How.{How}
+use Rattle.runners.specs.declared.run.How.the-variants.{Returned, Ended, Stopped}
 use Rattle.demands.specs.Demands.{IsAlarm}
 use Rattle.demands.specs.Steps.{Done, Linked}
 use Rattle.demands.proofs.Named.{block-named}

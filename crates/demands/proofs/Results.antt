@@ -23,7 +23,7 @@ use Rattle.steps.specs.Ahead.{mostCalls}
 use Rattle.steps.specs.Steps.{Task, taskOf}
 use Rattle.steps.proofs.Places.{AllIn, lines-in, FoundIn, program-on}
 use Rattle.interpreter.specs.Answers.{Result, refused, resultOf, startOf, mainBy, mainRun, readThen, longestTape, whole}
-use Rattle.interpreter.specs.Runs.{programRun}
+use Rattle.runners.specs.Runs.{programRun}
 use Rattle.interpreter.specs.Wrong.{settingsWrong, Right}
 use Rattle.interpreter.proofs.Right.{right}
 use Rattle.demands.specs.Demands.{IsAlarm, readTask, task}

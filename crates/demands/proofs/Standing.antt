@@ -10,7 +10,7 @@ use Rattle.whole.specs.declared.signed.Side.{Side}
 use Rattle.whole.specs.declared.signed.Side.the-variants.{Minus}
 use Rattle.moves.specs.declared.record.Record.{Record}
 use Rattle.block.specs.Rules.{has}
-use Rattle.block.specs.Words.{mFirst}
+use Rattle.block.specs.Words.{sSlot, tSlot, mFirst}
 use Rattle.block.specs.declared.codes.Motion.the-variants as motion
 use Rattle.block.specs.declared.words.Block.{Block}
 use Rattle.cycles.specs.Goes.{rapidTo}
@@ -19,7 +19,7 @@ use Rattle.turning.specs.declared.cycle.Cycle.{Cycle}
 use Rattle.grooving.specs.Grooving.{cuts, cutting, dwelling, plunge, plunges, afterFirst, steps, grooving, outTo}
 use Rattle.grooving.specs.declared.groove.Groove.{Groove}
 use Rattle.cycles.specs.Axis.{side}
-use Rattle.state.specs.Modal.{tSlot, blockMotion, settled}
+use Rattle.state.specs.Modal.{blockMotion, settled}
 use Rattle.state.specs.declared.modal.Kept.{Kept}
 use Rattle.state.specs.declared.modal.Kept.the-variants as kept
 use Rattle.state.specs.declared.modal.State.{State}
@@ -28,7 +28,7 @@ use Rattle.deeds.specs.declared.deed.Deed.{Deed}
 use Rattle.deeds.specs.declared.deed.Deed.the-variants as deed
 use Rattle.deeds.specs.declared.deed.Sending.{Sending}
 use Rattle.machine.specs.Blocks.{sendingOf, deedIn, doneRecords, doneState}
-use Rattle.machine.specs.Writes.{sSlot, oneIf, speedOf, toolOf, mOf, dwellOf, speedAndTool, spindleAndCoolant, doing, moved, done, stops, stopping, writes}
+use Rattle.machine.specs.Writes.{oneIf, speedOf, toolOf, mOf, dwellOf, speedAndTool, spindleAndCoolant, doing, moved, done, stops, stopping, writes}
 use Rattle.machine.specs.declared.run.Settings.{Settings}
 use Rattle.demands.specs.Demands.{lastOf}
 

@@ -2,7 +2,7 @@
 -- Assumes nothing.
 use mathlib.Core.Path.{_≡_, refl}
 use mathlib.Core.Bool.{true}
-use Rattle.whole.specs.Division.{count, pieces}
+use Rattle.division.specs.Division.{count, pieces}
 use Rattle.whole.specs.Position.{inTable}
 use Rattle.moves.specs.Form.{roomOf}
 use Rattle.tape.specs.Lines.{seek, opensTape, isLineFeed, lineAt, gapOf, linesUp, lines}
@@ -27,7 +27,7 @@ use Rattle.machine.specs.Writes.{oneIf, speedOf, toolOf, mOf, dwellOf, speedAnd
 use Rattle.steps.specs.Ahead.{calledAt, jumpedTo, lookedUp}
 use Rattle.steps.specs.Steps.{blockIn, blockOn, whatBy, alarmBy, alarmAt, runAfter, didAt, recordsAt, takenBy, takenFrom}
 use Rattle.interpreter.specs.Answers.{answerBy, resultOf, mainBy, mainRun, readThen, whole}
-use Rattle.interpreter.specs.Runs.{recordsOf, pre, goBack, andThen, goOn, onward, blocks, enough, repeated, called}
+use Rattle.runners.specs.Runs.{recordsOf, pre, goBack, andThen, goOn, onward, blocks, enough, repeated, called}
 use Rattle.interpreter.specs.Wrong.{someOut, spanWrong, numbersWrong, tableWrong, settingsWrong}
 use Rattle.demands.specs.Table.{table, allHold}
 

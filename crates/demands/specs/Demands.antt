@@ -19,7 +19,7 @@ use Rattle.machine.specs.Opens.{opensTurning, cycleIn}
 use Rattle.machine.specs.declared.run.Settings.{Settings}
 use Rattle.steps.specs.Steps.{Task, taskOf, Step, blockOn}
 use Rattle.interpreter.specs.Answers.{placeOf, countOf, Result, longestTape, whole, answerOf, bufferOf, laidBy}
-use Rattle.interpreter.specs.Runs.{recordsOf}
+use Rattle.runners.specs.Runs.{recordsOf}
 use Rattle.interpreter.specs.declared.interpret.Answer.{Answer}
 use Rattle.interpreter.specs.declared.interpret.Answer.the-variants.{Complete, Alarm}
 

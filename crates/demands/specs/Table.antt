@@ -7,7 +7,7 @@ use lib.Dec.{eqb}
 use lib.IntN.{ℤ, pos, negsuc}
 use lib.Signed.{leZ}
 use lib.ListN.{replicate}
-use Rattle.whole.specs.Division.{count, pieces}
+use Rattle.division.specs.Division.{count, pieces}
 use Rattle.moves.specs.Kinds.{rapid, feed, miscellaneous}
 use Rattle.moves.specs.declared.record.Record.{Record}
 use Rattle.tape.specs.Text.{bytes}
@@ -16,7 +16,7 @@ use Rattle.tape.specs.declared.word.Next.{Next}
 use Rattle.tape.specs.declared.word.Next.the-variants as next
 use Rattle.machine.specs.declared.run.Settings.{Settings}
 use Rattle.interpreter.specs.Answers.{numberOf, placeOf, countOf, Result, whole}
-use Rattle.interpreter.specs.Runs.{recordsOf}
+use Rattle.runners.specs.Runs.{recordsOf}
 
 -- "with main 1, lowest subroutine 80, retract 500, start X 60000 Z 50000, limits -200000 to 200000, table zero"
 abbrev pub listmoves : Settings

@@ -12,7 +12,7 @@ use lib.IntN.{ℤ, _+ℤ_}
 use lib.ListN.{length}
 use Rattle.whole.specs.declared.signed.Side.the-variants.{Minus}
 use Rattle.whole.specs.Signed.{along}
-use Rattle.whole.specs.Division.{sum}
+use Rattle.division.specs.Division.{sum}
 use Rattle.whole.proofs.Sides.{along-add, along-zero, arrives}
 use Rattle.moves.specs.declared.record.Record.{Record}
 use Rattle.cycles.specs.Goes.{dwellAt}

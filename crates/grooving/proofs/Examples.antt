@@ -6,7 +6,7 @@ use mathlib.Core.List.{List, [], _∷_, _++_}
 use Prim.Native.Nat.{ℕ}
 use lib.IntN.{ℤ, pos, negsuc}
 use lib.ListN.{length}
-use Rattle.whole.specs.Division.{count, pieces}
+use Rattle.division.specs.Division.{count, pieces}
 use Rattle.moves.specs.declared.record.Record.{Record}
 use Rattle.moves.specs.Kinds.{rapid, feed, dwell}
 use Rattle.cycles.specs.Goes.{rapidTo, feedTo, dwellAt}

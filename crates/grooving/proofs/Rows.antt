@@ -9,8 +9,8 @@ use native.Mathlib.Omega.{arith}
 use lib.Dec.{eqb}
 use lib.ListN.{length}
 use borrow.Author.Tests.{eq-eqb, ne-eqb}
-use Rattle.whole.specs.Division.{count, pieces, sum}
-use Rattle.whole.proofs.Divisions.{count-above, count-is, pieces-length, pieces-sum}
+use Rattle.division.specs.Division.{count, pieces, sum}
+use Rattle.division.proofs.Divisions.{count-above, count-is, pieces-length, pieces-sum}
 use Rattle.grooving.specs.declared.groove.Groove.{Groove}
 use Rattle.grooving.specs.Grooving.{lengthOf, wrong, rest, stepCount, steps, cutCount, cuts, plungeCount}
 use Rattle.grooving.proofs.Asked.{asked}

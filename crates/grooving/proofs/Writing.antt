@@ -16,11 +16,11 @@ use mir.Val.{SFits}
 use borrow.Author.Tests.{eq-eqb, ne-eqb}
 use Rattle.whole.specs.declared.signed.Side.the-variants.{Minus}
 use Rattle.whole.specs.Signed.{along}
-use Rattle.whole.specs.Division.{pieces, lineAfter}
+use Rattle.division.specs.Division.{pieces, lineAfter}
 use Rattle.whole.specs.Bytes.{laid}
 use Rattle.whole.proofs.Integers.{whole, sub-in, abs}
 use Rattle.whole.proofs.Sides.{along-add, along-zero}
-use Rattle.whole.proofs.Divisions.{pieces-length, line-first, line-last, line-next}
+use Rattle.division.proofs.Divisions.{pieces-length, line-first, line-last, line-next}
 use Rattle.whole.proofs.Laying.{laid-nil, length-laid}
 use Rattle.moves.specs.declared.record.Record.{Record}
 use Rattle.moves.specs.Form.{recordStart, recordBytes, rowBytes}

@@ -12,7 +12,7 @@ use lib.Signed.{leZ}
 use Rattle.whole.specs.declared.signed.Side.{Side}
 use Rattle.whole.specs.declared.signed.Side.the-variants.{Minus}
 use Rattle.whole.specs.Signed.{sideOf, along}
-use Rattle.whole.specs.Division.{count, pieces}
+use Rattle.division.specs.Division.{count, pieces}
 use Rattle.moves.specs.declared.record.Record.{Record}
 use Rattle.cycles.specs.Goes.{rapidTo, feedTo, dwellAt}
 use Rattle.grooving.specs.declared.groove.Way.{Way}

@@ -62,7 +62,7 @@ pub fn step_count(g: Groove) -> u32
     if rest == 0 {
         return 0;
     }
-    whole::division::piece_count(rest, g.tool - g.overlap)
+    division::piece_count(rest, g.tool - g.overlap)
 }
 
 // How many cuts a plunge has; a piece of 0 asks for one.
@@ -76,7 +76,7 @@ pub fn cut_count(g: Groove) -> u32
     if piece == 0 {
         return 1;
     }
-    whole::division::piece_count(deep, piece)
+    division::piece_count(deep, piece)
 }
 
 // How many records a plunge has.

@@ -48,7 +48,7 @@ fn put_cuts(buf: &mut [u8], k: usize, g: Groove, w: i32)
     let mut done: u32 = 0;
     while done < last {
         let behind = done + 1;
-        let t = whole::division::line_after(deep, n, behind);
+        let t = division::line_after(deep, n, behind);
         let cut = deep_at(g, t);
         let out = deep_at(g, drawn_back(t, back));
         let second = next + 1;
@@ -98,7 +98,7 @@ fn put_others(buf: &mut [u8], k: usize, g: Groove)
     let mut done: u32 = 0;
     while done < n {
         let behind = done + 1;
-        let by = whole::division::line_after(rest, n, behind);
+        let by = division::line_after(rest, n, behind);
         let w = whole::signed::step(start, whole::signed::Side::Minus, by);
         let first = next + 1;
         cycles::goes::put_rapid(buf, next, facing, home, w);

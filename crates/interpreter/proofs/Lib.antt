@@ -1,5 +1,4 @@
 -- The laws of this crate, for the crates built on it.
-pub mod Going
 pub mod Right
 pub mod Within
 pub mod Whole

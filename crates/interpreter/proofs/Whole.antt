@@ -26,12 +26,12 @@ use Rattle.steps.specs.declared.step.Run.{Run}
 use Rattle.steps.proofs.Places.{FoundIn, program-on}
 use Rattle.interpreter.specs.declared.interpret.Answer.{Answer}
 use Rattle.interpreter.specs.declared.interpret.Answer.the-variants.{Alarm}
-use Rattle.interpreter.specs.declared.run.How.{How}
-use Rattle.interpreter.specs.declared.run.Outcome.{Outcome}
-use Rattle.interpreter.specs.Runs.{blocksInAll, recordsOf, programRun, RanMeets}
+use Rattle.runners.specs.declared.run.How.{How}
+use Rattle.runners.specs.declared.run.Outcome.{Outcome}
+use Rattle.runners.specs.Runs.{blocksInAll, recordsOf, programRun, RanMeets}
 use Rattle.interpreter.specs.Wrong.{settingsWrong, Right}
 use Rattle.interpreter.specs.Answers.{Result, refused, answerBy, resultOf, startOf, mainBy, mainRun, readThen, longestTape, whole, headed, laidBy}
-use Rattle.interpreter.proofs.Going.{wrote-length}
+use Rattle.runners.proofs.Going.{wrote-length}
 
 -- an answer and a buffer, as a result has them
 abbrev pub Gives : Result → List ℕ → Answer → List ℕ → Type 0

@@ -24,9 +24,9 @@ use Rattle.steps.specs.Steps.{Task, taskOf, Step}
 use Rattle.steps.specs.declared.step.Run.{Run}
 use Rattle.interpreter.specs.declared.interpret.Answer.{Answer}
 use Rattle.interpreter.specs.declared.interpret.Answer.the-variants.{Complete, Alarm}
-use Rattle.interpreter.specs.declared.run.How.{How}
-use Rattle.interpreter.specs.declared.run.How.the-variants.{Returned, Ended, Stopped}
-use Rattle.interpreter.specs.Runs.{blocksInAll, Ran, recordsOf, programRun}
+use Rattle.runners.specs.declared.run.How.{How}
+use Rattle.runners.specs.declared.run.How.the-variants.{Returned, Ended, Stopped}
+use Rattle.runners.specs.Runs.{blocksInAll, Ran, recordsOf, programRun}
 use Rattle.interpreter.specs.Wrong.{settingsWrong}
 
 -- 01's values of an answer: the alarm's number, 0 where the list is complete; the place; the records written

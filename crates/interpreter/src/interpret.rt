@@ -1,9 +1,9 @@
 // The interpreter: a tape, a table, settings and a lent buffer in, a list of moves or a named alarm out. No caller has to check anything first.
 // (01: "1 to 4 in that order; then lines from the front ..; then 10 for the main; then blocks as run".)
-use crate::run::How;
 use machine::run::Settings;
 use reading::find::Found;
 use reading::read::Read;
+use runners::run::How;
 use steps::step::Run;
 ghost use mathlib.Core.Path.{_≡_};
 ghost use Prim.Native.Nat.{_≤_};
@@ -62,7 +62,7 @@ fn run_main(tape: &[u8], table: &[i32], set: Settings, first: usize, buf: &mut [
     let Found::At(p) = found else {
         return Answer::Alarm(alarms::PROGRAM_MISSING, 0, 0);
     };
-    let o = crate::run::run_program(
+    let o = runners::run::run_program(
         tape,
         table,
         set,

@@ -10,13 +10,12 @@ use Rattle.whole.specs.Bytes.{laid}
 use Rattle.moves.specs.Form.{recordStart, rowBytes}
 use Rattle.moves.specs.declared.record.Record.{Record}
 use Rattle.block.specs.Rules.{has}
-use Rattle.block.specs.Words.{mFirst}
+use Rattle.block.specs.Words.{sSlot, tSlot, mFirst}
 use Rattle.block.specs.declared.words.Block.{Block}
-use Rattle.state.specs.Modal.{tSlot}
 use Rattle.state.specs.declared.modal.State.{State}
 use Rattle.deeds.specs.Judge.{lengthWrong, deedRecords}
 use Rattle.deeds.specs.declared.deed.Deed.{Deed}
-use Rattle.machine.specs.Writes.{sSlot, oneIf, speedOf, toolOf, mOf, speedAndTool, spindleAndCoolant, doing, done, stops, stopping, writes, others}
+use Rattle.machine.specs.Writes.{oneIf, speedOf, toolOf, mOf, speedAndTool, spindleAndCoolant, doing, done, stops, stopping, writes, others}
 use Rattle.machine.proofs.Writing.{Wrote, first-room, second-room, both, one-length, two-length}
 use Rattle.machine.proofs.Deeds.{doing-length}
 

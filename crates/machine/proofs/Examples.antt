@@ -5,7 +5,7 @@ use mathlib.Core.Bool.{true}
 use mathlib.Core.List.{List, [], _∷_, _++_}
 use lib.IntN.{ℤ, pos, negsuc}
 use lib.ListN.{replicate}
-use Rattle.whole.specs.Division.{count, pieces}
+use Rattle.division.specs.Division.{count, pieces}
 use Rattle.moves.specs.Kinds.{rapid, feed, miscellaneous}
 use Rattle.moves.specs.declared.record.Record.{Record}
 use Rattle.tape.specs.Text.{bytes}

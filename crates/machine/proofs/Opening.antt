@@ -12,11 +12,11 @@ use borrow.Author.Tests.{eqb-true}
 use Rattle.moves.specs.declared.record.Record.{Record}
 use Rattle.block.specs.Codes.{gCode}
 use Rattle.block.specs.Rules.{has, groupZeroIs}
-use Rattle.block.specs.Words.{mFirst, gFirst}
+use Rattle.block.specs.Words.{sSlot, tSlot, mFirst, gFirst}
 use Rattle.block.specs.declared.codes.Motion.the-variants as motion
 use Rattle.block.specs.declared.words.Block.{Block}
 use Rattle.cycles.specs.Goes.{inwardOf, acrossOf}
-use Rattle.state.specs.Modal.{tSlot, codeIn, motionBy, blockMotion, settled}
+use Rattle.state.specs.Modal.{codeIn, motionBy, blockMotion, settled}
 use Rattle.state.specs.declared.modal.Kept.{Kept}
 use Rattle.state.specs.declared.modal.Kept.the-variants as kept
 use Rattle.state.specs.declared.modal.State.{State}
@@ -29,7 +29,7 @@ use Rattle.turning.specs.Turning.{turning}
 use Rattle.turning.specs.declared.cycle.Cycle.{Cycle}
 use Rattle.turning.proofs.Turned.{turned}
 use Rattle.machine.specs.declared.run.Settings.{Settings}
-use Rattle.machine.specs.Writes.{sSlot, oneIf, speedOf, toolOf, mOf, speedAndTool, spindleAndCoolant, doing, done, stops, stopping, writes}
+use Rattle.machine.specs.Writes.{oneIf, speedOf, toolOf, mOf, speedAndTool, spindleAndCoolant, doing, done, stops, stopping, writes}
 use Rattle.machine.specs.Blocks.{sendingOf, deedIn, alarmIn, doneRecords}
 use Rattle.machine.specs.Opens.{opensTurning, cycleIn}
 use Rattle.machine.proofs.Quiet.{Quiet, AllQuiet, NoFeeds, quiet-append, turned-between}

@@ -8,18 +8,14 @@ use lib.IntN.{ℤ}
 use Rattle.moves.specs.Kinds.{rapid, feed, thread, dwell, tool, miscellaneous, speed}
 use Rattle.moves.specs.declared.record.Record.{Record}
 use Rattle.block.specs.Rules.{has}
-use Rattle.block.specs.Words.{mFirst}
+use Rattle.block.specs.Words.{sSlot, tSlot, mFirst}
 use Rattle.block.specs.declared.words.Block.{Block}
-use Rattle.state.specs.Modal.{tSlot, codeIn}
+use Rattle.state.specs.Modal.{codeIn}
 use Rattle.state.specs.declared.modal.State.{State}
 use Rattle.turning.specs.Turning.{turning}
 use Rattle.grooving.specs.Grooving.{grooving}
 use Rattle.deeds.specs.declared.deed.Deed.{Deed}
 use Rattle.deeds.specs.declared.deed.Deed.the-variants as deed
-
--- the slot of S
-abbrev pub sSlot : ℕ
-sSlot = 5
 
 -- a record where it is wanted
 unfoldable pub oneIf : Bool → Record → List Record

@@ -10,6 +10,7 @@ use lib.Dec.{leb}
 use borrow.Author.Tests.{leb-true}
 use lib.IntN.{ℤ, pos, natAbs, _+ℤ_, _-ℤ_, _*ℤ_}
 use lib.ListN.{getD}
+use Rattle.block.specs.Words.{tSlot}
 use Rattle.whole.specs.Position.{inTable}
 use Rattle.whole.proofs.Integers.{whole, up, down, add-in, sub-in, up-mul, down-mul, abs}
 use Rattle.block.specs.Codes.{Row, look, gRows, gCode}
@@ -18,7 +19,7 @@ use Rattle.block.specs.Worded.{Worded}
 use Rattle.block.specs.declared.codes.Code.the-variants as code
 use Rattle.block.specs.declared.words.Block.{Block}
 use Rattle.state.specs.declared.modal.State.{State}
-use Rattle.state.specs.Modal.{tSlot, atStart, codeIn, shiftBy, shiftAfter, correctionAfter, settled}
+use Rattle.state.specs.Modal.{atStart, codeIn, shiftBy, shiftAfter, correctionAfter, settled}
 use Rattle.state.specs.Target.{offsetOf, sent, targetX, targetZ, Table, Sound, Sent}
 use Rattle.state.proofs.Sending.{Offset, offset-x, offset-z, Going, going-x, going-z}
 

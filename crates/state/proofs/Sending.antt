@@ -1,4 +1,5 @@
 -- The laws of offsets and targets: the numbers of the table and their sums fit an `i32`, and no lawful target is refused.
+-- Assumes nothing.
 use mathlib.Core.Path.{_≡_, ap, _∙_}
 use mathlib.Core.Bool.{true, false}
 use mathlib.Core.List.{List}

@@ -5,7 +5,7 @@ use mathlib.Core.Bool.{Bool, true, false}
 use Prim.Native.Nat.{_+_}
 use Rattle.block.specs.Codes.{mCode}
 use Rattle.block.specs.Rules.{has}
-use Rattle.block.specs.Words.{mFirst, gFirst}
+use Rattle.block.specs.Words.{lSlot, mFirst, gFirst}
 use Rattle.block.specs.declared.codes.Code.{Code}
 use Rattle.block.specs.declared.codes.Flow.{Flow}
 use Rattle.block.specs.declared.codes.Meaning.{Meaning}
@@ -14,7 +14,7 @@ use Rattle.block.specs.declared.words.Block.{Block}
 use Rattle.state.specs.declared.next.Next.{Next}
 use Rattle.state.specs.declared.next.Next.the-variants.{On}
 use Rattle.state.specs.Modal.{codeIn}
-use Rattle.state.specs.Next.{lSlot, steered, flowBy, nextOf}
+use Rattle.state.specs.Next.{steered, flowBy, nextOf}
 
 -- ---- a code that was matched on
 pub steers-is : {m : Meaning} {f g : Flow} → m ≡ means.Steers f → f ≡ g → m ≡ means.Steers g

@@ -8,7 +8,7 @@ use lib.IntN.{ℤ, pos, natAbs}
 use lib.ListN.{getD}
 use Rattle.block.specs.Codes.{gCode}
 use Rattle.block.specs.Rules.{has}
-use Rattle.block.specs.Words.{gFirst}
+use Rattle.block.specs.Words.{fSlot, tSlot, gFirst}
 use Rattle.block.specs.declared.codes.Code.{Code}
 use Rattle.block.specs.declared.codes.Code.the-variants as code
 use Rattle.block.specs.declared.codes.Motion.the-variants as motion
@@ -17,13 +17,6 @@ use Rattle.block.specs.declared.words.Block.{Block}
 use Rattle.state.specs.declared.modal.Kept.{Kept}
 use Rattle.state.specs.declared.modal.Kept.the-variants.{Nothing, Of}
 use Rattle.state.specs.declared.modal.State.{State}
-
--- the slots of F and T
-abbrev pub fSlot : ℕ
-fSlot = 4
-
-abbrev pub tSlot : ℕ
-tSlot = 6
 
 -- "At the start: no motion function, G97, G95, G53, G56, tool correction 0, no F." No G00 is due
 abbrev pub atStart : ℤ → ℤ → State

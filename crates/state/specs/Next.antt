@@ -5,7 +5,7 @@ use Prim.Native.Nat.{ℕ, _+_, _/_, _%_}
 use lib.Dec.{eqb}
 use Rattle.block.specs.Codes.{mCode}
 use Rattle.block.specs.Rules.{has}
-use Rattle.block.specs.Words.{mFirst, gFirst}
+use Rattle.block.specs.Words.{mFirst, lSlot, gFirst}
 use Rattle.block.specs.declared.codes.Code.{Code}
 use Rattle.block.specs.declared.codes.Code.the-variants as code
 use Rattle.block.specs.declared.codes.Flow.the-variants as flow
@@ -14,10 +14,6 @@ use Rattle.block.specs.declared.words.Block.{Block}
 use Rattle.state.specs.declared.next.Next.{Next}
 use Rattle.state.specs.declared.next.Next.the-variants.{On, Call, Jump, Return, End}
 use Rattle.state.specs.Modal.{codeIn}
-
--- the slot of L
-abbrev pub lSlot : ℕ
-lSlot = 31
 
 -- "repeats 0 means once"
 unfoldable pub timesOf : ℕ → ℕ

@@ -12,6 +12,7 @@ use Rattle.whole.specs.Position.{inTable}
 use Rattle.whole.specs.declared.position.Placed.{Placed}
 use Rattle.whole.specs.declared.position.Placed.the-variants.{At, Outside}
 use Rattle.block.specs.Rules.{has}
+use Rattle.block.specs.Words.{xSlot, zSlot}
 use Rattle.block.specs.declared.words.Block.{Block}
 use Rattle.state.specs.declared.modal.State.{State}
 use Rattle.state.specs.declared.target.Pair.{Pair}
@@ -44,10 +45,10 @@ sent b k times present offset =
 
 -- X and U, which is doubled; Z and W
 unfoldable pub targetX : State → Block → ℤ → ℤ
-targetX s b offset = sent b 0 2 (s .x) offset
+targetX s b offset = sent b xSlot 2 (s .x) offset
 
 unfoldable pub targetZ : State → Block → ℤ → ℤ
-targetZ s b offset = sent b 1 1 (s .z) offset
+targetZ s b offset = sent b zSlot 1 (s .z) offset
 
 -- ---- what is known where a block runs
 -- the table has its 208 numbers, each in range (alarm 1)

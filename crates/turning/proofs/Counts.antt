@@ -13,9 +13,9 @@ use mir.Val.{SFits}
 use borrow.Author.Tests.{ne-eqb}
 use Rattle.whole.specs.declared.signed.Side.{Side}
 use Rattle.whole.specs.Signed.{along}
-use Rattle.whole.specs.Division.{sum}
+use Rattle.division.specs.Division.{sum}
 use Rattle.whole.proofs.Sides.{along-add, along-zero}
-use Rattle.whole.proofs.Divisions.{count-is, pieces-length, pieces-sum}
+use Rattle.division.proofs.Divisions.{count-is, pieces-length, pieces-sum}
 use Rattle.whole.proofs.Integers.{whole, range, sub-in, abs}
 use Rattle.moves.specs.Form.{AllFitting}
 use Rattle.cycles.specs.declared.axis.Axis.{Axis}

@@ -5,7 +5,7 @@ use mathlib.Core.Bool.{true, false}
 use mathlib.Core.List.{[], _∷_}
 use Prim.Native.Nat.{ℕ}
 use lib.IntN.{pos, negsuc}
-use Rattle.whole.specs.Division.{count, pieces}
+use Rattle.division.specs.Division.{count, pieces}
 use Rattle.moves.specs.Kinds.{rapid, feed}
 use Rattle.cycles.specs.Goes.{rapidTo, feedTo}
 use Rattle.turning.specs.declared.cycle.Cycle.{Cycle}

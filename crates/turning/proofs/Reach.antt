@@ -11,9 +11,9 @@ use lib.IntN.{ℤ, _+ℤ_}
 use lib.ListN.{length}
 use Rattle.whole.specs.declared.signed.Side.{Side}
 use Rattle.whole.specs.Signed.{along}
-use Rattle.whole.specs.Division.{sum}
+use Rattle.division.specs.Division.{sum}
 use Rattle.whole.proofs.Sides.{along-add, along-zero}
-use Rattle.whole.proofs.Divisions.{pieces-length, pieces-sum}
+use Rattle.division.proofs.Divisions.{pieces-length, pieces-sum}
 use Rattle.moves.specs.declared.record.Record.{Record}
 use Rattle.cycles.specs.declared.limits.Limits.{Limits}
 use Rattle.cycles.specs.Axis.{side, net, allowanceLine}

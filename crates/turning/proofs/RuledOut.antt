@@ -7,9 +7,9 @@ use Prim.Native.Nat.{ℕ}
 use native.Mathlib.Omega.{arith}
 use lib.IntN.{ℤ, pos, negsuc}
 use lib.ListN.{length}
-use Rattle.whole.specs.Division.{Evenly}
+use Rattle.division.specs.Division.{Evenly}
 use Rattle.whole.proofs.Integers.{whole, up}
-use Rattle.whole.proofs.RuledOut.{thin-last, copied-first}
+use Rattle.division.proofs.RuledOut.{thin-last, copied-first}
 use Rattle.moves.specs.declared.record.Record.{Record}
 use Rattle.cycles.specs.Axis.{side}
 use Rattle.cycles.specs.Goes.{rapidTo, feedTo}

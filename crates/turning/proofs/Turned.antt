@@ -14,10 +14,10 @@ use borrow.Author.Tests.{lt-ltb, ne-eqb}
 use Rattle.whole.specs.declared.signed.Side.{Side}
 use Rattle.whole.specs.declared.signed.Side.the-variants.{Minus, Zero, Plus}
 use Rattle.whole.specs.Signed.{sideOf, along}
-use Rattle.whole.specs.Division.{count, pieces, divided, sum, Evenly}
+use Rattle.division.specs.Division.{count, pieces, divided, sum, Evenly}
 use Rattle.whole.proofs.Integers.{whole, add-in, sub-in, up-neg, down-neg, abs}
 use Rattle.whole.proofs.Sides.{along-add, along-zero}
-use Rattle.whole.proofs.Divisions.{evenly, pieces-sum, count-above}
+use Rattle.division.proofs.Divisions.{evenly, pieces-sum, count-above}
 use Rattle.moves.specs.declared.record.Record.{Record}
 use Rattle.cycles.specs.declared.axis.Axis.{Axis}
 use Rattle.cycles.specs.Axis.{side, net, allowanceLine}

@@ -12,10 +12,10 @@ use mir.Syntax.{w32}
 use mir.Val.{SFits}
 use Rattle.whole.specs.declared.signed.Side.{Side}
 use Rattle.whole.specs.Signed.{along}
-use Rattle.whole.specs.Division.{pieces, lineAfter}
+use Rattle.division.specs.Division.{pieces, lineAfter}
 use Rattle.whole.specs.Bytes.{laid}
 use Rattle.whole.proofs.Sides.{along-add, along-zero, between}
-use Rattle.whole.proofs.Divisions.{pieces-length, line-first, line-next, line-within}
+use Rattle.division.proofs.Divisions.{pieces-length, line-first, line-next, line-within}
 use Rattle.whole.proofs.Laying.{laid-nil, length-laid}
 use Rattle.moves.specs.declared.record.Record.{Record}
 use Rattle.moves.specs.Form.{recordStart, recordBytes, rowBytes}

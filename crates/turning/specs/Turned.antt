@@ -10,7 +10,7 @@ use lib.IntN.{ℤ, pos, _-ℤ_, natAbs}
 use lib.Signed.{_≤ℤ_}
 use Rattle.whole.specs.declared.signed.Side.{Side}
 use Rattle.whole.specs.declared.signed.Side.the-variants.{Minus, Zero, Plus}
-use Rattle.whole.specs.Division.{Evenly}
+use Rattle.division.specs.Division.{Evenly}
 use Rattle.moves.specs.declared.record.Record.{Record}
 use Rattle.cycles.specs.declared.axis.Axis.{Axis}
 use Rattle.cycles.specs.Axis.{side, net, allowanceLine}

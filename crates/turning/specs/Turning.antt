@@ -7,7 +7,7 @@ use lib.Dec.{eqb}
 use lib.IntN.{ℤ, _+ℤ_}
 use Rattle.whole.specs.declared.signed.Side.{Side}
 use Rattle.whole.specs.Signed.{along}
-use Rattle.whole.specs.Division.{count, pieces}
+use Rattle.division.specs.Division.{count, pieces}
 use Rattle.moves.specs.declared.record.Record.{Record}
 use Rattle.cycles.specs.Axis.{side, net, allowanceLine}
 use Rattle.cycles.specs.Goes.{rapidTo, feedTo}

@@ -35,7 +35,7 @@ pub fn pass_count(e: u32, division: u32) -> u32
     if division == 0 {
         return 1;
     }
-    whole::division::piece_count(e, division)
+    division::piece_count(e, division)
 }
 
 // How many records the cycle has (alarm 20). Its lengths were asked for before (19).

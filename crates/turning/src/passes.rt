@@ -10,7 +10,7 @@ ghost use mir.Syntax.{w32};
 ghost use mir.Val.{SFits};
 ghost use Rattle.whole.specs.Signed.{along};
 ghost use Rattle.whole.specs.Bytes.{laid};
-ghost use Rattle.whole.specs.Division.{pieces};
+ghost use Rattle.division.specs.Division.{pieces};
 ghost use Rattle.moves.specs.Form.{recordStart, rowBytes};
 ghost use Rattle.cycles.specs.Axis.{net};
 ghost use Rattle.turning.specs.Turning.{recordCount, passOn, passes, turning};
@@ -52,7 +52,7 @@ fn put_passes(buf: &mut [u8], k: usize, p: Pass, side: Side, e: u32, n: u32)
     let mut next = k;
     let mut done: u32 = 0;
     while done < n {
-        let by = whole::division::piece(e, n, done);
+        let by = division::piece(e, n, done);
         line = whole::signed::step(line, side, by);
         put_pass(buf, next, p, line);
         next += 4;

@@ -1,5 +1,6 @@
 -- Whole numbers (ℤ) read as differences of two naturals, so that `omega` can prove facts about them.
 -- up z is z where z is positive, else 0; down z is -z where z is negative, else 0: z = up z - down z.
+-- Assumes nothing.
 use mathlib.Core.Path.{_≡_, refl, sym, ap, _∙_, subst}
 use mathlib.Core.Bool.{Bool, true, false, not, cond}
 use Prim.Native.Nat.{ℕ, zero, suc, _+_, _-_, _*_, _≤_, _<_, _^_, min, max}

@@ -3,7 +3,5 @@ pub mod Integers
 pub mod Held
 pub mod Sides
 pub mod Positions
-pub mod Divisions
-pub mod RuledOut
 pub mod LittleEndian
 pub mod Laying

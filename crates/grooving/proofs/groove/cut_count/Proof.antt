@@ -4,7 +4,7 @@ use borrow.Author.Tests.{eq-eqb, ne-eqb}
 use mathlib.Core.Path.{ap, _∙_}
 use Prim.Native.Nat.{ℕ}
 use native.Mathlib.Omega.{arith}
-use Rattle.whole.specs.Division.{count}
+use Rattle.division.specs.Division.{count}
 use Rattle.grooving.specs.Grooving.{cutCount}
 use Rattle.grooving.proofs.Asked.{asked}
 use Rattle.grooving.proofs.groove.cut_count.Statement.{statement}

@@ -9,8 +9,8 @@ use mir.Syntax.{w32}
 use mir.Val.{toZ, ofZ}
 use mir.Facts.{toZ-ofZ}
 use Rattle.whole.specs.Bytes.{laid}
-use Rattle.whole.specs.Division.{pieces, lineAfter}
-use Rattle.whole.proofs.Divisions.{line-within}
+use Rattle.division.specs.Division.{pieces, lineAfter}
+use Rattle.division.proofs.Divisions.{line-within}
 use Rattle.moves.specs.Form.{recordStart, rowBytes}
 use Rattle.grooving.specs.Grooving.{deepAt, cutting}
 use Rattle.grooving.proofs.Rows.{some-cuts}

@@ -12,9 +12,9 @@ use mir.Val.{SFits, toZ, ofZ}
 use mir.Facts.{toZ-ofZ}
 use Rattle.whole.specs.declared.signed.Side.the-variants.{Minus}
 use Rattle.whole.specs.Bytes.{laid}
-use Rattle.whole.specs.Division.{pieces, lineAfter}
+use Rattle.division.specs.Division.{pieces, lineAfter}
 use Rattle.whole.specs.Signed.{along}
-use Rattle.whole.proofs.Divisions.{line-within}
+use Rattle.division.proofs.Divisions.{line-within}
 use Rattle.moves.specs.Form.{recordStart, rowBytes}
 use Rattle.grooving.specs.Grooving.{plunges, plungeCount}
 use Rattle.grooving.proofs.Asked.{asked, width-fits}

@@ -2,8 +2,8 @@
 use mathlib.Core.Path.{refl}
 use denote.Ref.{now}
 use borrow.Author.Needs.{needs}
+use Rattle.block.specs.Words.{tSlot}
 use Rattle.block.specs.Rules.{has}
-use Rattle.state.specs.Modal.{tSlot}
 use Rattle.machine.specs.Writes.{oneIf, toolOf, speedAndTool}
 use Rattle.machine.proofs.Writing.{first-room, second-room, both, parts-of}
 use Rattle.machine.proofs.writes.put_speed_and_tool.Statement.{statement}

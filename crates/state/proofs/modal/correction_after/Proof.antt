@@ -1,7 +1,8 @@
 -- `state::modal::correction_after` meets its contract.
 use mathlib.Core.Path.{ap}
 use Prim.Native.Nat.{ℕ, _%_}
-use Rattle.state.specs.Modal.{correctionAfter, codeIn, tSlot}
+use Rattle.block.specs.Words.{tSlot}
+use Rattle.state.specs.Modal.{correctionAfter, codeIn}
 use Rattle.state.proofs.Settling.{given, stays}
 use borrow.Author.Needs.{needs}
 use Rattle.state.proofs.modal.correction_after.Statement.{statement}

@@ -8,7 +8,7 @@ use native.Mathlib.Numerals.{add-one}
 use native.Mathlib.Decide.{decLe}
 use native.Mathlib.Omega.{arith}
 use lib.ListN.{length, take, getD, replicate, length-append, length-replicate, getD-replicate}
-use Rattle.whole.specs.Division.{count, pieces, divided, sum, greatest, lineAfter, Evenly}
+use Rattle.division.specs.Division.{count, pieces, divided, sum, greatest, lineAfter, Evenly}
 
 -- ---- sums and greatest pieces of repeats, and of rows joined
 sum-append : (a b : List ℕ) → sum (a ++ b) ≡ sum a + sum b

@@ -1,4 +1,4 @@
--- `interpreter::run::run_program` and `interpreter::run::run_call`, which call each other, meet their contracts.
+-- `runners::run::run_program` and `runners::run::run_call`, which call each other, meet their contracts.
 use mathlib.Core.Path.{_≡_, ap}
 use Prim.Native.Nat.{_+_, _≤_}
 use Prim.Native.Nat.{ℕ, _<_}
@@ -11,16 +11,16 @@ use Rattle.tape.specs.declared.line.Line.{Line}
 use Rattle.tape.proofs.line.line_at.Reads as line-at-reads
 use Rattle.steps.specs.Steps.{taskOf, Ready}
 use Rattle.steps.proofs.step.take_step.Reads as take-step-reads
-use Rattle.interpreter.specs.Runs.{blocksInAll}
-use Rattle.interpreter.proofs.Going
-use Rattle.interpreter.proofs.run.run_call.Reads as run-call
-use Rattle.interpreter.proofs.run.run_call.Kinds as run-call-kinds
-use Rattle.interpreter.proofs.run.+run_call+run_program.Lts-run_call as run-call-lts
-use Rattle.interpreter.proofs.run.run_program.Reads as run-program
-use Rattle.interpreter.proofs.run.run_program.Kinds as run-program-kinds
-use Rattle.interpreter.proofs.run.+run_call+run_program.Lts-run_program as run-program-lts
-use Rattle.interpreter.proofs.run.+run_call+run_program.{statement}
-use Rattle.interpreter.proofs.run.+run_call+run_program.Tie.{close}
+use Rattle.runners.specs.Runs.{blocksInAll}
+use Rattle.runners.proofs.Going
+use Rattle.runners.proofs.run.run_call.Reads as run-call
+use Rattle.runners.proofs.run.run_call.Kinds as run-call-kinds
+use Rattle.runners.proofs.run.+run_call+run_program.Lts-run_call as run-call-lts
+use Rattle.runners.proofs.run.run_program.Reads as run-program
+use Rattle.runners.proofs.run.run_program.Kinds as run-program-kinds
+use Rattle.runners.proofs.run.+run_call+run_program.Lts-run_program as run-program-lts
+use Rattle.runners.proofs.run.+run_call+run_program.{statement}
+use Rattle.runners.proofs.run.+run_call+run_program.Tie.{close}
 
 abbrev μ-run-call : Measures 3 run-call-kinds.ps ℕ
 μ-run-call κs a = a .1 .1 .1 .1 .1 .1 .0 + a .1 .1 .1 .1 .1 .1 .0

@@ -7,7 +7,7 @@ ghost use mathlib.Core.Path.{_≡_};
 ghost use Prim.Native.Nat.{_≤_, _<_};
 ghost use lib.ListN.{length};
 ghost use Rattle.steps.specs.Steps.{taskOf, Needs};
-ghost use Rattle.interpreter.specs.Runs.{blocksInAll, ProgramMeets, CallMeets};
+ghost use Rattle.runners.specs.Runs.{blocksInAll, ProgramMeets, CallMeets};
 
 // How a program's run came to its end. An alarm has its number and its place.
 pub enum How {

@@ -1,11 +1,11 @@
--- `whole::division::line_after` meets its contract.
+-- `division::line_after` meets its contract.
 use borrow.Author.Needs.{needs}
 use native.Mathlib.Omega.{arith}
 use native.Mathlib.Nat.{div-add-mod, mul-le-mul-right}
 use Prim.Native.Nat.{_+_, _*_, _/_, _%_, _≤_}
-use Rattle.whole.proofs.Divisions.{line-is}
-use Rattle.whole.proofs.division.line_after.Statement.{statement}
-use Rattle.whole.proofs.division.line_after.Tie as tie
+use Rattle.division.proofs.Divisions.{line-is}
+use Rattle.division.proofs.line_after.Statement.{statement}
+use Rattle.division.proofs.line_after.Tie as tie
 
 -- k quotients and the remainder are no more than the length
 way : (c : tie.Start) → c .args .k * (c .args .length / c .args .n) + c .args .length % c .args .n ≤ c .args .length

@@ -5,7 +5,7 @@ use mathlib.Core.Path.{_≡_, refl}
 use mathlib.Core.List.{[], _∷_}
 use Prim.Native.Nat.{ℕ, _≤_}
 use native.Mathlib.Omega.{arith}
-use Rattle.whole.specs.Division.{Evenly}
+use Rattle.division.specs.Division.{Evenly}
 
 -- full pieces and a thin last one: 2,500 four times is as short, and its greatest piece is smaller
 pub thin-last : Evenly 10000 3000 (3000 ∷ 3000 ∷ 3000 ∷ 1000 ∷ []) → ⊥

@@ -1,12 +1,12 @@
--- `whole::division::piece` meets its contract.
+-- `division::piece` meets its contract.
 use borrow.Author.Needs.{needs}
 use native.Mathlib.Omega.{arith}
 use native.Mathlib.Nat.{div-add-mod, mul-le-mul-right}
 use Prim.Native.Nat.{_/_, _<_}
 use mathlib.Core.Path.{sym}
-use Rattle.whole.proofs.Divisions.{piece-first, piece-later}
-use Rattle.whole.proofs.division.piece.Statement.{statement}
-use Rattle.whole.proofs.division.piece.Tie as tie
+use Rattle.division.proofs.Divisions.{piece-first, piece-later}
+use Rattle.division.proofs.piece.Statement.{statement}
+use Rattle.division.proofs.piece.Tie as tie
 
 div-quotient : tie.Need-div-quotient
 div-quotient c = search needs

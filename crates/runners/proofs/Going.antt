@@ -25,11 +25,11 @@ use Rattle.steps.specs.declared.ahead.What.{What}
 use Rattle.steps.specs.declared.ahead.What.the-variants.{On, Call, Jump, Return, End, Stop}
 use Rattle.steps.specs.declared.step.Did.{Did}
 use Rattle.steps.specs.declared.step.Run.{Run}
-use Rattle.interpreter.specs.declared.run.How.{How}
-use Rattle.interpreter.specs.declared.run.How.the-variants.{Returned, Ended, Stopped}
-use Rattle.interpreter.specs.declared.run.Outcome.{Outcome}
-use Rattle.interpreter.specs.Runs.{Ran, ran, recordsOf, pre, goBack, andThen, goOn, onward, blocks, blocksInAll, enough as spare, repeated, called, programRun, Took, RanMeets}
-use Rattle.interpreter.proofs.run.How.{the-type}
+use Rattle.runners.specs.declared.run.How.{How}
+use Rattle.runners.specs.declared.run.How.the-variants.{Returned, Ended, Stopped}
+use Rattle.runners.specs.declared.run.Outcome.{Outcome}
+use Rattle.runners.specs.Runs.{Ran, ran, recordsOf, pre, goBack, andThen, goOn, onward, blocks, blocksInAll, enough as spare, repeated, called, programRun, Took, RanMeets}
+use Rattle.runners.proofs.run.How.{the-type}
 
 -- ---- written
 pub took-nil : (t : Task) (b : List ℕ) (r : Run) → Fit t r → Took t b r [] b r

@@ -3,7 +3,7 @@
 ghost use mathlib.Core.Path.{_≡_};
 ghost use Prim.Native.Nat.{_<_, _≤_};
 ghost use lib.ListN.{getD};
-ghost use Rattle.whole.specs.Division.{count, pieces, lineAfter};
+ghost use Rattle.division.specs.Division.{count, pieces, lineAfter};
 
 // How many pieces of at most `greatest` a length takes. A division of nothing, or by 0, cannot be asked for.
 pub fn piece_count(length: u32, greatest: u32) -> u32

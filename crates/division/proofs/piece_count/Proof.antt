@@ -1,12 +1,12 @@
--- `whole::division::piece_count` meets its contract.
+-- `division::piece_count` meets its contract.
 use borrow.Author.Needs.{needs}
 use native.Mathlib.Omega.{arith}
 use native.Mathlib.Nat.{div-le-self}
 use Prim.Native.Nat.{_-_}
 use mathlib.Core.Path.{sym}
-use Rattle.whole.proofs.Divisions.{count-is}
-use Rattle.whole.proofs.division.piece_count.Statement.{statement}
-use Rattle.whole.proofs.division.piece_count.Tie as tie
+use Rattle.division.proofs.Divisions.{count-is}
+use Rattle.division.proofs.piece_count.Statement.{statement}
+use Rattle.division.proofs.piece_count.Tie as tie
 
 sub-result : tie.Need-sub-result
 sub-result c = search needs

@@ -10,9 +10,9 @@ use Rattle.steps.specs.Steps.{Task, Step, Taken, takenFrom, Wrote}
 use Rattle.steps.specs.declared.ahead.What.{What}
 use Rattle.steps.specs.declared.ahead.What.the-variants.{On, Call, Jump, Return, End, Stop}
 use Rattle.steps.specs.declared.step.Run.{Run}
-use Rattle.interpreter.specs.declared.run.How.{How}
-use Rattle.interpreter.specs.declared.run.How.the-variants.{Returned, Ended, Stopped}
-use Rattle.interpreter.specs.declared.run.Outcome.{Outcome}
+use Rattle.runners.specs.declared.run.How.{How}
+use Rattle.runners.specs.declared.run.How.the-variants.{Returned, Ended, Stopped}
+use Rattle.runners.specs.declared.run.Outcome.{Outcome}
 
 -- A RUN: how it came to its end, the run there, and its steps, calls and repeats included. A refused block is no step
 pub record Ran : Type 0 where
