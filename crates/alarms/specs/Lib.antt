@@ -1,2 +1,3 @@
 -- The definitions that name the alarms.
 pub mod Numbers
+pub mod Given

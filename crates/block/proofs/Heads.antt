@@ -4,20 +4,18 @@ use mathlib.Core.Path.{_≡_, refl, sym, subst}
 use mathlib.Core.Bool.{Bool, true, false, cond, _||_}
 use mathlib.Core.List.{List}
 use Prim.Native.Nat.{ℕ, _<_}
-use lib.Dec.{T, eqb, ltb, eqb→eq}
+use lib.Dec.{T, eqb, eqb→eq}
 use lib.IntN.{ℤ, natAbs}
-use lib.ListN.{length}
-use Rattle.tape.specs.Letters.{percent, letterN, letterO}
-use Rattle.tape.specs.Words.{kindOf, nextWord}
-use Rattle.tape.specs.declared.word.Word.{Word}
-use Rattle.tape.specs.declared.word.Next.{Next}
-use Rattle.tape.specs.declared.word.Next.the-variants as next
-use Rattle.tape.proofs.Within.{Below, Within, WordIn, NextWord, word-within}
+use Rattle.letters.specs.Letters.{percent, letterN, letterO}
+use Rattle.addresses.specs.Words.{formOf}
+use Rattle.addresses.specs.declared.Word.{Word}
+use Rattle.addresses.specs.declared.NextWord.{NextWord}
+use Rattle.addresses.specs.declared.NextWord.the-variants as next
+use Rattle.numbers.proofs.Bounds.{Below}
+use Rattle.addresses.proofs.Within.{Within, WordIn, NextWithin}
 use Rattle.block.specs.declared.words.Head.{Head}
 use Rattle.block.specs.declared.words.Head.the-variants.{Blank, ProgramLine, BlockLine, Other}
-use Rattle.block.specs.declared.rules.Judged.{Judged}
-use Rattle.block.specs.Words.{isProgramAddress, headBy, lineBy, lineOf}
-use Rattle.block.specs.Rules.{judged}
+use Rattle.block.specs.Words.{isProgramAddress, headBy, lineBy}
 
 -- the number of a head
 abbrev pub HeadIn : Head → Type 0
@@ -30,8 +28,8 @@ pub size-below : {n : ℕ} {z : ℤ} → Below n z → natAbs z < n
 size-below {n} b = subst (λ (z : ℤ). natAbs z < n) (sym (b .is)) (b .small)
 
 -- a word of the address a: its number is within what a takes
-pub taken : (w : Word) (a : ℕ) → WordIn w → w .address ≡ a → Within (kindOf a) (w .value)
-taken w a i e = subst (λ (b : ℕ). Within (kindOf b) (w .value)) e (i .number)
+pub taken : (w : Word) (a : ℕ) → WordIn w → w .address ≡ a → Within (formOf a) (w .value)
+taken w a i e = subst (λ (b : ℕ). Within (formOf b) (w .value)) e (i .number)
 
 pub eqb-is : (a b : ℕ) → eqb a b ≡ true → a ≡ b
 eqb-is a b e = eqb→eq a b (subst T (sym e) tt)
@@ -41,7 +39,7 @@ or-is true b e P f g = f refl
 or-is false b e P f g = g e
 
 head-small : (w : Word) → WordIn w → HeadIn (headBy w)
-unfolding headBy isProgramAddress kindOf
+unfolding headBy isProgramAddress formOf
 head-small w i = go (eqb (w .address) percent || eqb (w .address) letterO) (eqb (w .address) letterN) refl refl
   where
     go : (s t : Bool) → (eqb (w .address) percent || eqb (w .address) letterO) ≡ s → eqb (w .address) letterN ≡ t
@@ -51,15 +49,7 @@ head-small w i = go (eqb (w .address) percent || eqb (w .address) letterO) (eqb 
     go false true e f = size-below (taken w letterN i (eqb-is (w .address) letterN f))
     go false false e f = tt
 
-line-small : (s : List ℕ) (n : Next) → NextWord n → HeadIn (lineBy s n .head)
+pub line-small : (s : List ℕ) (n : NextWord) → NextWithin n → HeadIn (lineBy s n .head)
 line-small s next.Fault i = tt
 line-small s next.End i = tt
 line-small s (next.Word w end) i = head-small w i
-
-either : (t : Bool) (x y : Judged) → HeadIn (x .head) → HeadIn (y .head) → HeadIn (cond t x y .head)
-either true x y f g = f
-either false x y f g = g
-
-pub judged-in : (s : List ℕ) → HeadIn (judged s .head)
-unfolding judged lineOf
-judged-in s = either (ltb 160 (length s)) _ _ tt (either (lineBy s (nextWord s 0) .faulty) _ _ tt (line-small s (nextWord s 0) (word-within s 0)))

@@ -1,6 +1,4 @@
--- The laws of codes, of the block's words and of the word rules.
-pub mod Tables
-pub mod Ruling
+-- The laws of the block's words.
 pub mod Slots
 pub mod Lines
 pub mod Heads

@@ -6,11 +6,11 @@ use mathlib.Core.List.{List}
 use Prim.Native.Nat.{ℕ, _+_, _≤_}
 use native.Mathlib.Omega.{arith}
 use lib.ListN.{length}
-use Rattle.tape.specs.Words.{faulty, onward, nextWord, wordsFrom}
-use Rattle.tape.specs.declared.word.Word.{Word}
-use Rattle.tape.specs.declared.word.Next.{Next}
-use Rattle.tape.specs.declared.word.Next.the-variants as next
-use Rattle.tape.proofs.Wording.{words-more}
+use Rattle.addresses.specs.Words.{faulty, onward, nextWord, wordsFrom}
+use Rattle.addresses.specs.declared.Word.{Word}
+use Rattle.addresses.specs.declared.NextWord.{NextWord}
+use Rattle.addresses.specs.declared.NextWord.the-variants as next
+use Rattle.addresses.proofs.Wording.{words-more}
 use Rattle.block.specs.declared.words.Block.{Block}
 use Rattle.block.specs.declared.words.Slot.{Slot}
 use Rattle.block.specs.declared.words.Slot.the-variants.{At, Late, Unknown}
@@ -33,8 +33,8 @@ put-words b w = put-in (slotOf w) b w
 
 -- the words of the line s from i on, by the next of them
 module _ (s : List ℕ) (i : ℕ) (h : i ≤ length s) (b : Block) where
-  from-next : {n : Next} → nextWord s i ≡ n → gather b (wordsFrom s i) ≡ gather b (onward n (λ end. wordsFrom s end))
-  from-next e = ap (gather b) (words-more s i h ∙ ap (λ (n : Next). onward n (λ end. wordsFrom s end)) e)
+  from-next : {n : NextWord} → nextWord s i ≡ n → gather b (wordsFrom s i) ≡ gather b (onward n (λ end. wordsFrom s end))
+  from-next e = ap (gather b) (words-more s i h ∙ ap (λ (n : NextWord). onward n (λ end. wordsFrom s end)) e)
 
   pub rest-fault : nextWord s i ≡ next.Fault → gather b (wordsFrom s i) ≡ faultyRest
   unfolding gather

@@ -3,8 +3,8 @@
 use mathlib.Core.Path.{_≡_}
 use Prim.Native.Nat.{ℕ}
 use borrow.Author.Tests.{ne-eqb}
-use Rattle.tape.specs.Letters.{percent, letterD, letterF, letterG, letterL, letterM, letterN, letterO, letterP, letterS, letterT, letterU, letterW, letterX, letterZ}
-use Rattle.tape.specs.declared.word.Word.{Word}
+use Rattle.letters.specs.Letters.{percent, letterD, letterF, letterG, letterL, letterM, letterN, letterO, letterP, letterS, letterT, letterU, letterW, letterX, letterZ}
+use Rattle.addresses.specs.declared.Word.{Word}
 use Rattle.block.specs.declared.words.Slot.the-variants.{Unknown}
 use Rattle.block.specs.declared.words.Head.the-variants.{Other}
 use Rattle.block.specs.Words.{slotOf, isProgramAddress, headBy}

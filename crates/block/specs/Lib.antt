@@ -1,5 +1,4 @@
 -- The definitions that the contracts of this crate cite, and those of the crates built on it.
-pub mod Codes
+pub mod Slots
 pub mod Words
-pub mod Rules
 pub mod Worded

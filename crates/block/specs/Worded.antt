@@ -7,11 +7,11 @@ use lib.IntN.{pos, natAbs}
 use lib.ListN.{getD}
 use Rattle.whole.specs.Position.{inTable}
 use Rattle.block.specs.declared.words.Block.{Block}
-use Rattle.block.specs.Words.{dFirst}
+use Rattle.block.specs.Slots.{dSlot}
 
 -- What is known of a block that was read: its path words are in the range of the table, since they have at most seven digits, its D words are at most 32,767, and no word
 -- has more than seven digits.
 pub record Worded (b : Block) : Type 0 where
   pub paths : (k : ℕ) → k ≤ 3 → inTable (getD (b .value) k (pos 0)) ≡ true
   pub each : (k : ℕ) → natAbs (getD (b .value) k (pos 0)) < 10_000_000
-  pub settings : (i : ℕ) → i < 10 → natAbs (getD (b .value) (dFirst + i) (pos 0)) < 32_768
+  pub settings : (i : ℕ) → i < 10 → natAbs (getD (b .value) (dSlot i) (pos 0)) < 32_768

@@ -1,68 +1,34 @@
 -- 01: "A program line is `%` or `O` and 1 to 4 digits, 0 to 6999, nothing more. A block line starts with `N` and 1 to 4 digits." (That a program number is at most
 -- 6999 is judged where the tape is read.) "Within a block, the last word of an address (for P
--- and D, of an address and index) is the one that applies, and for G and M the last word of its group (001)." "Reading ends after a line whose last word is M30".
+-- and D, of an address and index) is the one that applies, and for G and M the last word of its group (001)." "ReadLine ends after a line whose last word is M30".
 use mathlib.Core.Bool.{Bool, true, false, cond, _&&_, _||_}
 use mathlib.Core.List.{List}
 use Prim.Native.Nat.{ℕ, _+_, _<_}
 use lib.Dec.{eqb}
 use lib.IntN.{pos, natAbs}
 use lib.ListN.{set, replicate}
-use Rattle.tape.specs.Letters.{percent, letterD, letterF, letterG, letterL, letterM, letterN, letterO, letterP, letterS, letterT, letterU, letterW, letterX, letterZ}
-use Rattle.tape.specs.Words.{Words, word, ended, faulty, nextWord, wordsFrom}
-use Rattle.tape.specs.declared.word.Word.{Word}
-use Rattle.tape.specs.declared.word.Next.{Next}
-use Rattle.tape.specs.declared.word.Next.the-variants as next
-use Rattle.block.specs.declared.codes.Code.{Code}
-use Rattle.block.specs.declared.codes.Code.the-variants as code
+use Rattle.letters.specs.Letters.{percent, letterD, letterF, letterG, letterL, letterM, letterN, letterO, letterP, letterS, letterT, letterU, letterW, letterX, letterZ}
+use Rattle.addresses.specs.Words.{Words, word, ended, faulty, nextWord, wordsFrom}
+use Rattle.addresses.specs.declared.Word.{Word}
+use Rattle.addresses.specs.declared.NextWord.{NextWord}
+use Rattle.addresses.specs.declared.NextWord.the-variants as next
+use Rattle.codes.specs.declared.meaning.Code.{Code}
+use Rattle.codes.specs.declared.meaning.Code.the-variants as code
 use Rattle.block.specs.declared.words.Block.{Block}
 use Rattle.block.specs.declared.words.Slot.{Slot}
 use Rattle.block.specs.declared.words.Slot.the-variants.{At, Late, Unknown}
 use Rattle.block.specs.declared.words.Head.{Head}
 use Rattle.block.specs.declared.words.Head.the-variants.{Blank, ProgramLine, BlockLine, Other}
 use Rattle.block.specs.declared.words.Rest.{Rest}
-use Rattle.block.specs.declared.words.Reading.{Reading}
-use Rattle.block.specs.Codes.{gCode, mCode}
+use Rattle.block.specs.declared.words.ReadLine.{ReadLine}
+use Rattle.codes.specs.Codes.{gCode, mCode}
+use Rattle.acts.specs.Acting.{endsBy}
+use Rattle.block.specs.Slots.{slots, xSlot, zSlot, uSlot, wSlot, fSlot, sSlot, tSlot, mSlot, pSlot, dSlot, lSlot, gSlot}
 
--- the slots: X Z U W F S T, the groups of M, P0 to P9, D0 to D9, L, the groups of G. U stands two behind X, and W two behind Z
-abbrev pub xSlot : ℕ
-xSlot = 0
-
-abbrev pub zSlot : ℕ
-zSlot = 1
-
-abbrev pub uSlot : ℕ
-uSlot = 2
-
-abbrev pub wSlot : ℕ
-wSlot = 3
-
-abbrev pub fSlot : ℕ
-fSlot = 4
-
-abbrev pub sSlot : ℕ
-sSlot = 5
-
-abbrev pub tSlot : ℕ
-tSlot = 6
-
-abbrev pub mFirst : ℕ
-mFirst = 7
-
-abbrev pub pFirst : ℕ
-pFirst = 11
-
-abbrev pub dFirst : ℕ
-dFirst = 21
-
-abbrev pub lSlot : ℕ
-lSlot = 31
-
-abbrev pub gFirst : ℕ
-gFirst = 32
-
-abbrev pub codeSlot : Code → ℕ → Slot
-codeSlot (code.Of g m) first = At (first + g)
-codeSlot code.Unknown first = Unknown
+-- the slot of a G or an M word: that of its group
+abbrev pub codeSlot : Code → (ℕ → ℕ) → Slot
+codeSlot (code.Of g m) slot = At (slot g)
+codeSlot code.Unknown slot = Unknown
 
 -- the number of a G or M word, of a program and of a block has no sign
 abbrev pub numberIn : Word → ℕ
@@ -80,24 +46,24 @@ slotOf w =
     (cond (eqb a letterS) (At sSlot)
     (cond (eqb a letterT) (At tSlot)
     (cond (eqb a letterL) (At lSlot)
-    (cond (eqb a letterP) (At (pFirst + w .index))
-    (cond (eqb a letterD) (At (dFirst + w .index))
-    (cond (eqb a letterG) (codeSlot (gCode (numberIn w)) gFirst)
-    (cond (eqb a letterM) (codeSlot (mCode (numberIn w)) mFirst)
+    (cond (eqb a letterP) (At (pSlot (w .index)))
+    (cond (eqb a letterD) (At (dSlot (w .index)))
+    (cond (eqb a letterG) (codeSlot (gCode (numberIn w)) gSlot)
+    (cond (eqb a letterM) (codeSlot (mCode (numberIn w)) mSlot)
     (cond (eqb a letterN) Late Unknown))))))))))))
 
 abbrev pub SlotIn : Slot → Type 0
-SlotIn (At k) = k < 40
+SlotIn (At k) = k < slots
 SlotIn Late = Unit {0}
 SlotIn Unknown = Unit {0}
 
 -- the block with no words
 unfoldable pub noWords : Block
-noWords = record { value = replicate 40 (pos 0); place = replicate 40 0; words = 0; late = false; unknown = false; ends = false }
+noWords = record { value = replicate slots (pos 0); place = replicate slots 0; words = 0; late = false; unknown = false; ends = false }
 
 -- the word M30
 unfoldable pub isEnd : Word → Bool
-isEnd w = eqb (w .address) letterM && eqb (numberIn w) 30
+isEnd w = eqb (w .address) letterM && endsBy (mCode (numberIn w))
 
 -- a block with one word more: "the last word .. is the one that applies"
 abbrev pub putIn : Slot → Block → Word → Block
@@ -127,7 +93,7 @@ gather b (word w ws) = cond (isProgramAddress (w .address)) faultyRest (gather (
 unfoldable pub headBy : Word → Head
 headBy w = cond (isProgramAddress (w .address)) (ProgramLine (numberIn w)) (cond (eqb (w .address) letterN) (BlockLine (numberIn w)) Other)
 
-abbrev pub headOfNext : Next → Head
+abbrev pub headOfNext : NextWord → Head
 headOfNext next.Fault = Blank
 headOfNext next.End = Blank
 headOfNext (next.Word w end) = headBy w
@@ -135,14 +101,18 @@ headOfNext (next.Word w end) = headBy w
 unfoldable pub headOf : List ℕ → Head
 headOf s = headOfNext (nextWord s 0)
 
+-- alarm 7: "line above 160 bytes, comments counted, line end not"
+abbrev pub longestLine : ℕ
+longestLine = 160
+
 -- a whole line
-abbrev pub reading : Head → Rest → Reading
+abbrev pub reading : Head → Rest → ReadLine
 reading h r = record { head = h; block = r .block; faulty = r .faulty }
 
-abbrev pub lineBy : List ℕ → Next → Reading
+abbrev pub lineBy : List ℕ → NextWord → ReadLine
 lineBy s next.Fault = reading Blank faultyRest
 lineBy s next.End = reading Blank (gather noWords ended)
 lineBy s (next.Word w end) = reading (headBy w) (gather noWords (wordsFrom s end))
 
-unfoldable pub lineOf : List ℕ → Reading
+unfoldable pub lineOf : List ℕ → ReadLine
 lineOf s = lineBy s (nextWord s 0)

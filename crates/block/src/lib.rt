@@ -1,5 +1,3 @@
-// Words as blocks: what G and M numbers mean, how a line begins, which of its words apply, and the word rules.
-// A line is judged here by itself (alarms 7, 5 and 9); what it is among others is judged where the tape is read.
-pub mod codes;
-pub mod rules;
+// Words as blocks: how a line begins, and which of the words behind that apply.
+// What the G and M numbers mean stands in `codes`, what words may stand together in `rules`.
 pub mod words;

@@ -1,16 +1,19 @@
 // The words of a line as a block: an array of the applying words and one of their places, with a slot for each address and index, and for each group of G and M.
 // (01: "Within a block, the last word of an address (for P and D, of an address and index) is the one that applies, and for G and M the last word of its group".)
-use crate::codes::Code;
-use tape::word::Next;
-use tape::word::Word;
+use addresses::NextWord;
+use addresses::Word;
+use codes::meaning::Code;
 ghost use mathlib.Core.Path.{_≡_};
 ghost use Prim.Native.Nat.{_+_, _≤_, _<_};
 ghost use lib.ListN.{length};
-ghost use Rattle.tape.specs.Words.{wordsFrom};
-ghost use Rattle.block.specs.Codes.{gCode, mCode};
-ghost use Rattle.block.specs.Words.{gFirst, mFirst, SlotIn, codeSlot, slotOf, noWords, isEnd, putWord, isProgramAddress, faultyRest, gather, headBy, headOf, lineOf};
+ghost use Rattle.addresses.specs.Words.{wordsFrom};
+ghost use Rattle.codes.specs.Codes.{gCode, mCode};
+ghost use Rattle.block.specs.Slots.{slots, mSlot, dSlot, gSlot, has, codeIn, gIn, mIn};
+ghost use Rattle.block.specs.Words.{longestLine, SlotIn, codeSlot, slotOf, noWords, isEnd, putWord, isProgramAddress, faultyRest, gather, headBy, headOf, lineOf};
 
-// The first slot of each address: X Z U W F S T, the groups of M, P and D by their indexes, L, and the groups of G. There are 40.
+// The slots of a block's words, and how many there are: X Z U W F S T, the groups of M, P and D by their indexes, L, and the groups of G.
+pub const SLOTS: usize = 40;
+
 pub const X: usize = 0;
 
 pub const Z: usize = 1;
@@ -25,21 +28,42 @@ pub const S: usize = 5;
 
 pub const T: usize = 6;
 
-pub const M: usize = 7;
+// M03 M04 M05; M00 M17 M30; M08 M09
+const M: usize = 7;
 
+pub const SPINDLE: usize = M + 0;
+
+pub const FLOW: usize = M + 2;
+
+pub const COOLANT: usize = M + 3;
+
+// P0 and D0; the other indexes follow
 pub const P: usize = 11;
 
 pub const D: usize = 21;
 
 pub const L: usize = 31;
 
-pub const G: usize = 32;
+// G00 G01 G33 G04 G84 G86; G96 G97; G94 G95; G53 to G55; G56 to G59; G25 G27
+const G: usize = 32;
+
+pub const MOTION: usize = G + 0;
+
+pub const SPEED_MODE: usize = G + 1;
+
+pub const FEED_MODE: usize = G + 2;
+
+pub const SHIFT3: usize = G + 3;
+
+pub const SHIFT5: usize = G + 5;
+
+pub const STEERING: usize = G + 6;
 
 // What a block holds behind its number. The place of a slot is where its applying word stands among
 // these words, counted from 1, and 0 where no word applies.
 pub struct Block {
-    pub value: [i32; 40],
-    pub place: [u8; 40],
+    pub value: [i32; SLOTS],
+    pub place: [u8; SLOTS],
     // how many words there are
     pub words: u8,
     // an N word stands among them
@@ -50,6 +74,9 @@ pub struct Block {
     pub ends: bool,
 }
 
+// The longest line, line end not counted (alarm 7).
+pub const LONGEST_LINE: usize = 160;
+
 // How a line begins.
 pub enum Head {
     Blank,
@@ -59,7 +86,7 @@ pub enum Head {
 }
 
 // A line as it is read: how it begins, the words behind that, and whether it has a fault (alarm 5).
-pub struct Reading {
+pub struct ReadLine {
     pub head: Head,
     pub block: Block,
     pub faulty: bool,
@@ -85,9 +112,9 @@ fn wide(b: u8) -> usize
 
 // The slot of a G word and of an M word: that of its group.
 fn g_slot(n: u32) -> Slot
-    ensures { λ r. ⌜ (r ≡ codeSlot (gCode n) gFirst) × SlotIn r ⌝ }
+    ensures { λ r. ⌜ (r ≡ codeSlot (gCode n) gSlot) × SlotIn r ⌝ }
 {
-    let code = crate::codes::g_code(n);
+    let code = codes::meaning::g_code(n);
     match code {
         Code::Of(group, _) => Slot::At(G + group),
         Code::Unknown => Slot::Unknown,
@@ -95,9 +122,9 @@ fn g_slot(n: u32) -> Slot
 }
 
 fn m_slot(n: u32) -> Slot
-    ensures { λ r. ⌜ (r ≡ codeSlot (mCode n) mFirst) × SlotIn r ⌝ }
+    ensures { λ r. ⌜ (r ≡ codeSlot (mCode n) mSlot) × SlotIn r ⌝ }
 {
-    let code = crate::codes::m_code(n);
+    let code = codes::meaning::m_code(n);
     match code {
         Code::Of(group, _) => Slot::At(M + group),
         Code::Unknown => Slot::Unknown,
@@ -129,12 +156,60 @@ fn slot_of(w: Word) -> Slot
     }
 }
 
+// Whether a word applies in a slot.
+pub fn has(b: Block, k: usize) -> bool
+    requires { ⌜ k < slots ⌝ }
+    ensures { λ r. ⌜ r ≡ has b k ⌝ }
+{
+    b.place[k] != 0
+}
+
+// The number in a slot whose words have no sign.
+pub fn code_in(b: Block, k: usize) -> u32
+    requires { ⌜ k < slots ⌝ }
+    ensures { λ r. ⌜ r ≡ codeIn b k ⌝ }
+{
+    whole::signed::magnitude(b.value[k])
+}
+
+// What the G word means that applies in a slot of G; where there is none it is no code.
+pub fn g_in(b: Block, k: usize) -> Code
+    requires { ⌜ k < slots ⌝ }
+    ensures { λ r. ⌜ r ≡ gIn b k ⌝ }
+{
+    if has(b, k) {
+        let n = code_in(b, k);
+        return codes::meaning::g_code(n);
+    }
+    Code::Unknown
+}
+
+// What the M word means that applies in a slot of M; where there is none it is no code.
+pub fn m_in(b: Block, k: usize) -> Code
+    requires { ⌜ k < slots ⌝ }
+    ensures { λ r. ⌜ r ≡ mIn b k ⌝ }
+{
+    if has(b, k) {
+        let n = code_in(b, k);
+        return codes::meaning::m_code(n);
+    }
+    Code::Unknown
+}
+
+// The slot of the D word of an index.
+pub fn d_slot(index: usize) -> usize
+    requires { ⌜ index < 10 ⌝ }
+    ensures { λ r. ⌜ r ≡ dSlot index ⌝ }
+{
+    D + index
+}
+
 pub fn no_words() -> Block
     ensures { λ r. ⌜ r ≡ noWords ⌝ }
 {
     Block {
-        value: [0i32; 40],
-        place: [0u8; 40],
+        value: [0i32; SLOTS],
+        place: [0u8; SLOTS],
         words: 0,
         late: false,
         unknown: false,
@@ -146,7 +221,11 @@ pub fn no_words() -> Block
 fn is_end(w: Word) -> bool
     ensures { λ r. ⌜ r ≡ isEnd w ⌝ }
 {
-    (w.address == b'M') & (whole::signed::magnitude(w.value) == 30)
+    if w.address == b'M' {
+        let n = whole::signed::magnitude(w.value);
+        return acts::acting::ends_by(codes::meaning::m_code(n));
+    }
+    false
 }
 
 // The block with one word more: the last word of a slot is the one that applies.
@@ -194,26 +273,26 @@ fn faulty_rest() -> Rest
     }
 }
 
-// The words of a line from `from` on, in one block. A line of at most 160 bytes has no more words than a byte can count.
+// The words of a line from `from` on, in one block. A line that is not too long has no more words than a byte can count.
 fn read_rest(line: &[u8], from: usize) -> Rest
-    requires { ⌜ (from ≤ length (now line)) × (length (now line) ≤ 160) ⌝ }
+    requires { ⌜ (from ≤ length (now line)) × (length (now line) ≤ longestLine) ⌝ }
     ensures { λ r. ⌜ r ≡ gather noWords (wordsFrom (now (line .entry)) from) ⌝ }
 {
     let mut b = no_words();
     let mut i = from;
     loop {
-        let next = tape::word::next_word(line, i);
+        let next = addresses::next_word(line, i);
         match next {
-            Next::Fault => {
+            NextWord::Fault => {
                 return faulty_rest();
             }
-            Next::End => {
+            NextWord::End => {
                 return Rest {
                     block: b,
                     faulty: false,
                 };
             }
-            Next::Word(w, end) => {
+            NextWord::Word(w, end) => {
                 if is_program_address(w.address) {
                     return faulty_rest();
                 }
@@ -240,35 +319,35 @@ fn head_by(w: Word) -> Head
 pub fn head_of(line: &[u8]) -> Head
     ensures { λ r. ⌜ r ≡ headOf (now (line .entry)) ⌝ }
 {
-    let next = tape::word::next_word(line, 0);
+    let next = addresses::next_word(line, 0);
     match next {
-        Next::Fault => Head::Blank,
-        Next::End => Head::Blank,
-        Next::Word(w, _) => head_by(w),
+        NextWord::Fault => Head::Blank,
+        NextWord::End => Head::Blank,
+        NextWord::Word(w, _) => head_by(w),
     }
 }
 
 // The text of a whole line that is not too long (alarm 7 is judged before).
-pub fn read_line(line: &[u8]) -> Reading
-    requires { ⌜ length (now line) ≤ 160 ⌝ }
+pub fn read_line(line: &[u8]) -> ReadLine
+    requires { ⌜ length (now line) ≤ longestLine ⌝ }
     ensures { λ r. ⌜ r ≡ lineOf (now (line .entry)) ⌝ }
 {
-    let next = tape::word::next_word(line, 0);
+    let next = addresses::next_word(line, 0);
     match next {
-        Next::Fault => Reading {
+        NextWord::Fault => ReadLine {
             head: Head::Blank,
             block: no_words(),
             faulty: true,
         },
-        Next::End => Reading {
+        NextWord::End => ReadLine {
             head: Head::Blank,
             block: no_words(),
             faulty: false,
         },
-        Next::Word(w, end) => {
+        NextWord::Word(w, end) => {
             let rest = read_rest(line, end);
             let block = rest.block;
-            Reading {
+            ReadLine {
                 head: head_by(w),
                 block,
                 faulty: rest.faulty,

@@ -1,44 +1,23 @@
 -- Laws of the door: which of its two ways an input takes, demand 1 of every input, and that place and count of every answer have 16 bits.
 -- Assumes nothing.
 use mathlib.Core.Path.{_≡_, refl, sym, subst}
-use mathlib.Core.Bool.{Bool, true, false, not, _||_}
+use mathlib.Core.Bool.{Bool, true, false}
 use mathlib.Core.List.{List}
 use Prim.Native.Nat.{ℕ, _+_, _*_, _<_}
 use native.Mathlib.Omega.{arith}
-use lib.Dec.{eqb}
 use lib.IntN.{ℤ}
 use lib.ListN.{length}
-use borrow.Author.Tests.{eqb-true, eq-eqb, ne-eqb}
 use Rattle.alarms.specs.Numbers.{badSettings}
-use Rattle.machine.specs.declared.run.Settings.{Settings}
-use Rattle.interpreter.specs.Answers.{numberOf, placeOf, countOf, Result, refused, whole, answerOf, bufferOf, laidBy}
-use Rattle.interpreter.specs.declared.interpret.Answer.{Answer}
-use Rattle.interpreter.specs.declared.interpret.Answer.the-variants.{Alarm}
+use Rattle.settings.specs.declared.control.Settings.{Settings}
+use Rattle.answers.specs.Answers.{numberOf, placeOf, countOf}
+use Rattle.interpreter.specs.Answers.{Result, refused, interpretation, answerOf, bufferOf, laidBy}
+use Rattle.answers.specs.declared.Answer.{Answer}
+use Rattle.answers.specs.declared.Answer.the-variants.{Alarm}
 use Rattle.interpreter.proofs.Whole.{none-begun}
 use Rattle.demands.specs.Demands.{Owed}
 use Rattle.demands.proofs.Holding.{none-owed, demand-one}
-use Rattle.board.specs.Door.{isBelow, unfit, settingsOf, atDoor, answerAt, bufferAt, Packed, DemandOneAtDoor, Fits}
-
--- ---- nine numbers
-first-false : (a b : Bool) → (a || b) ≡ false → a ≡ false
-first-false true b e = e
-first-false false b e = refl
-
-not-not : (a : Bool) → not a ≡ false → a ≡ true
-not-not true e = refl
-not-not false e = sym e
-
-pub nine : (numbers : List ℤ) → unfit numbers ≡ false → length numbers ≡ 9
-unfolding unfit
-nine numbers e = eqb-true (length numbers) 9 (not-not (eqb (length numbers) 9) (first-false (not (eqb (length numbers) 9)) _ e))
-
-pub other-length : (numbers : List ℤ) → (length numbers ≡ 9 → ⊥) → true ≡ unfit numbers
-unfolding unfit
-other-length numbers h = rw (ne-eqb (length numbers) 9 h) refl
-
-pub are-nine : (numbers : List ℤ) → length numbers ≡ 9 → {x y z : Bool} → x ≡ isBelow numbers 0 → y ≡ isBelow numbers 1 → z ≡ isBelow numbers 2 → ((x || y) || z) ≡ unfit numbers
-unfolding unfit
-are-nine numbers h x y z = rw (eq-eqb (length numbers) 9 h) (λ i. (x i || y i) || z i)
+use Rattle.settings.specs.Row.{unfit, settingsOf}
+use Rattle.board.specs.Door.{atDoor, answerAt, bufferAt, Packed, DemandOneAtDoor, Fits}
 
 -- ---- the numbers of an answer, as they stand in one
 pub packs : (a : Answer) (r : ℕ) → Fits a → numberOf a < 256 → r ≡ countOf a + 65_536 * (placeOf a + 65_536 * numberOf a) → Packed a r
@@ -73,7 +52,7 @@ module _ (tape : List ℕ) (table numbers : List ℤ) (b : List ℕ) where
   refused-here h p = opened-by (is-refused h) p (none-begun badSettings 0 b .1)
 
   module _ (h : unfit numbers ≡ false) {set : Settings} (s : set ≡ settingsOf numbers) where
-    is-run : atDoor tape table numbers (length b) ≡ whole tape table set (length b)
+    is-run : atDoor tape table numbers (length b) ≡ interpretation tape table set (length b)
     unfolding atDoor
     is-run = rw (h, s) refl
 
@@ -81,7 +60,7 @@ module _ (tape : List ℕ) (table numbers : List ℤ) (b : List ℕ) where
     ran-here k {r} p l = opened-by is-run (subst (λ (x : Answer). Packed x r) k p) l
 
   owed-by : (set : Settings) → set ≡ settingsOf numbers → (bad : Bool) → unfit numbers ≡ bad → DemandOneAtDoor tape table numbers b
-  owed-by set s true h = subst (λ (x : Result). Owed (length tape) x b) (sym (is-refused h)) (none-owed (length tape) b badSettings 0 (omega arith, omega arith) (omega arith) (omega arith))
+  owed-by set s true h = subst (λ (x : Result). Owed (length tape) x b) (sym (is-refused h)) (none-owed (length tape) b badSettings 0 refl (omega arith) (omega arith))
   owed-by set s false h = subst (λ (x : Result). Owed (length tape) x b) (sym (is-run h s)) (demand-one tape table set b)
 
   pub demand-one-at-door : DemandOneAtDoor tape table numbers b

@@ -1,42 +1,20 @@
--- THE DOOR. Settings: main, lowest subroutine, retract, start X, start Z, X lowest, X highest, Z lowest, Z highest. "settings that are not nine numbers, or a number out of its range, are
--- alarm 1, whatever the rest is". Which ranges there are is said once, in interpreter/specs/Wrong.antt; here is only what its settings cannot hold: a number below 0 for main, lowest subroutine
--- or retract.
+-- THE DOOR: tape, table, settings as a row of numbers (settings/specs/Row.antt), and the buffer; an answer as one number.
 use mathlib.Core.Path.{_≡_}
-use mathlib.Core.Bool.{Bool, cond, not, _||_}
+use mathlib.Core.Bool.{cond}
 use mathlib.Core.List.{List}
 use Prim.Native.Nat.{ℕ, _/_, _%_, _<_}
-use lib.Dec.{eqb}
-use lib.IntN.{ℤ, pos, natAbs}
-use lib.ListN.{length, getD}
-use lib.Signed.{ltZ}
+use lib.IntN.{ℤ}
+use lib.ListN.{length}
 use Rattle.alarms.specs.Numbers.{badSettings}
-use Rattle.machine.specs.declared.run.Settings.{Settings}
-use Rattle.interpreter.specs.Answers.{numberOf, placeOf, countOf, Result, refused, whole, laidBy}
-use Rattle.interpreter.specs.declared.interpret.Answer.{Answer}
+use Rattle.settings.specs.Row.{unfit, settingsOf}
+use Rattle.answers.specs.Answers.{numberOf, placeOf, countOf}
+use Rattle.interpreter.specs.Answers.{Result, refused, interpretation, laidBy}
+use Rattle.answers.specs.declared.Answer.{Answer}
 use Rattle.demands.specs.Demands.{Owed}
-
-abbrev pub at : List ℤ → ℕ → ℤ
-at numbers k = getD numbers k (pos 0)
-
-abbrev pub isBelow : List ℤ → ℕ → Bool
-isBelow numbers k = ltZ (at numbers k) (pos 0)
-
-unfoldable pub unfit : List ℤ → Bool
-unfit numbers = not (eqb (length numbers) 9) || ((isBelow numbers 0 || isBelow numbers 1) || isBelow numbers 2)
-
-unfoldable pub settingsOf : List ℤ → Settings
-settingsOf numbers = record {
-  main = natAbs (at numbers 0);
-  lowest = natAbs (at numbers 1);
-  retract = natAbs (at numbers 2);
-  x = at numbers 3;
-  z = at numbers 4;
-  limits = record { x = record { lowest = at numbers 5; highest = at numbers 6 }; z = record { lowest = at numbers 7; highest = at numbers 8 } };
-}
 
 -- tape, table, the settings as they came, and the length of the buffer
 unfoldable pub atDoor : List ℕ → List ℤ → List ℤ → ℕ → Result
-atDoor tape table numbers bytes = cond (unfit numbers) (refused badSettings 0) (whole tape table (settingsOf numbers) bytes)
+atDoor tape table numbers bytes = cond (unfit numbers) (refused badSettings 0) (interpretation tape table (settingsOf numbers) bytes)
 
 abbrev pub answerAt : List ℕ → List ℤ → List ℤ → ℕ → Answer
 answerAt tape table numbers bytes = atDoor tape table numbers bytes .answer
@@ -55,7 +33,7 @@ pub record Packed (a : Answer) (r : ℕ) : Type 0 where
 abbrev pub DemandOneAtDoor : List ℕ → List ℤ → List ℤ → List ℕ → Type 0
 DemandOneAtDoor tape table numbers b = Owed (length tape) (atDoor tape table numbers (length b)) b
 
--- ---- what is known where it is not given
+-- ---- what is known of an answer before it is packed
 -- an answer whose place and count have 16 bits
 pub record Fits (a : Answer) : Type 0 where
   pub place : placeOf a < 65_536

@@ -3,11 +3,11 @@
 // The file `stdin` holds the first: a name, LF, lines of settings, the tape, byte 29, the listing, and byte 30. data/ALARMS.md is the card. Each line of the file `args` names an example:
 // data/examples has its tape, its listing, and its settings where they are other ones than those of `listmoves`. How each is written down the crate `stored` knows.
 mod files;
-mod judge;
 
 use libc::STDIN_FILENO;
 use libc::STDOUT_FILENO;
 use stored::compare::Verdict;
+ghost use Rattle.stored.specs.Texts.{FromOne};
 
 // What stands between a tape and its listing, and what ends a case.
 const BEHIND_TAPE: u8 = 29;
@@ -42,7 +42,7 @@ fn show_case(case: &[u8]) {
         return;
     }
     let want = behind + 1;
-    show_verdict(judge::judge_case(&case[0..behind], settings, &case[want..]));
+    show_verdict(comparing::judge_case(&case[0..behind], settings, &case[want..]));
 }
 
 // One case after the other.
@@ -63,7 +63,7 @@ fn show_alarm(case: &[u8], want: &[u8]) {
     let end = stored::text::find(want, 0, b'\n');
     show(b"card ");
     show(&want[0..end]);
-    show_verdict(judge::judge_case(case, 0, want));
+    show_verdict(comparing::judge_case(case, 0, want));
 }
 
 // One pair after the other, until none is left.
@@ -93,7 +93,18 @@ fn show_card(page: &[u8]) {
 fn show_long() {
     let tape = io::large_buffer();
     show(b"card ALARM 2 0 0");
-    show_verdict(judge::judge(&tape, stored::given::usual(), b"ALARM 2 0 0\n"));
+    show_verdict(comparing::judge(&tape, stored::given::usual(), b"ALARM 2 0 0\n"));
+}
+
+// Judges an example's tape, with what its case gives, by its listing.
+fn judge_example(name: &[u8], given: [i32; stored::given::ALL]) -> Verdict
+    ensures { λ r. ⌜ FromOne r ⌝ }
+{
+    let mut tape = io::large_buffer();
+    let t = files::read_part(name, b".tape", &mut tape);
+    let mut want = io::large_buffer();
+    let w = files::read_part(name, b".list", &mut want);
+    comparing::judge(&tape[..t], given, &want[..w])
 }
 
 fn show_example(name: &[u8]) {
@@ -107,11 +118,7 @@ fn show_example(name: &[u8]) {
         show_verdict(Verdict::Unread);
         return;
     }
-    let mut tape = io::large_buffer();
-    let t = files::read_part(name, b".tape", &mut tape);
-    let mut want = io::large_buffer();
-    let w = files::read_part(name, b".list", &mut want);
-    show_verdict(judge::judge(&tape[..t], given, &want[..w]));
+    show_verdict(judge_example(name, given));
 }
 
 fn show_examples() {

@@ -1,4 +1,4 @@
 -- The definitions that the contracts of this crate cite, and those of the crates built on it.
-pub mod Axis
-pub mod Goes
-pub mod Limits
+pub mod Feeds
+pub mod Cycle
+pub mod Known

@@ -1,5 +1,79 @@
-// What the cycles have in common: an axis with its allowance, a move named by the axis that goes in and the one across it, and the soft limits.
-// A cycle knows its axes by what they do; which of them is X is said once, by `facing`.
-pub mod axis;
-pub mod goes;
-pub mod limits;
+// The cycles as one family. Whoever runs a block asks a cycle what is asked here, and never which cycle it is.
+// A new cycle is a crate of its own, a row in the table of `codes` and in that of `acts`, the clause of `deeds` that gives it its numbers, and one arm in each function below.
+use grooving::groove::Groove;
+use settings::limits::Limits;
+use turning::cycle::Turning;
+ghost use mathlib.Core.Path.{_≡_};
+ghost use mathlib.Core.Bool.{false};
+ghost use Prim.Native.Nat.{_+_, _≤_};
+ghost use lib.ListN.{length};
+ghost use Rattle.whole.specs.Bytes.{laid};
+ghost use Rattle.moves.specs.Form.{recordStart, rowBytes};
+ghost use Rattle.axes.specs.Limits.{anyOutside};
+ghost use Rattle.cycles.specs.Cycle.{wrong, leastFeed, records};
+ghost use Rattle.cycles.specs.Known.{Known};
+
+// "A move by G01, G84 or G86 needs 1 to 9999, by G33 10 to 9999."
+pub const LEAST_FEED: u32 = 1;
+
+pub const LEAST_PITCH: u32 = 10;
+
+pub const GREATEST_FEED: u32 = 9_999;
+
+pub enum Cycle {
+    Turning(Turning),
+    Grooving(Groove),
+}
+
+// Alarm 19: lengths, directions or tool width.
+pub fn is_wrong(c: Cycle) -> bool
+    ensures { λ r. ⌜ r ≡ wrong c ⌝ }
+{
+    match c {
+        Cycle::Turning(t) => turning::cycle::too_short(t),
+        Cycle::Grooving(g) => grooving::groove::is_wrong(g),
+    }
+}
+
+// Alarm 17: the least F that the cycle takes.
+pub fn least_feed(c: Cycle) -> u32
+    ensures { λ r. ⌜ r ≡ leastFeed c ⌝ }
+{
+    match c {
+        Cycle::Turning(_) => LEAST_FEED,
+        Cycle::Grooving(_) => LEAST_FEED,
+    }
+}
+
+// Alarm 18: a move of the cycle ends outside the limits. Alarm 19 was judged before.
+pub fn ends_outside(c: Cycle, l: Limits) -> bool
+    requires { ⌜ wrong c ≡ false ⌝ }
+    ensures { λ r. ⌜ r ≡ anyOutside l (records c) ⌝ }
+{
+    match c {
+        Cycle::Turning(t) => turning::cycle::ends_outside(t, l),
+        Cycle::Grooving(g) => grooving::groove::ends_outside(g, l),
+    }
+}
+
+// Alarm 20: how many records the cycle has. Alarm 19 was judged before.
+pub fn record_count(c: Cycle) -> u64
+    requires { ⌜ (wrong c ≡ false) × Known c ⌝ }
+    ensures { λ r. ⌜ r ≡ length (records c) ⌝ }
+{
+    match c {
+        Cycle::Turning(t) => turning::cycle::record_count(t),
+        Cycle::Grooving(g) => grooving::groove::record_count(g),
+    }
+}
+
+// Writes the records of a cycle, from record k on. Its lengths and its room were asked for before (alarms 19 and 20).
+pub fn put_cycle(buf: &mut [u8], k: usize, c: Cycle)
+    requires { ⌜ (wrong c ≡ false) × (recordStart (k + length (records c)) ≤ length (now buf)) ⌝ }
+    ensures { λ _. ⌜ now (buf .exit) ≡ laid (now (buf .entry)) (recordStart k) (rowBytes (records c)) ⌝ }
+{
+    match c {
+        Cycle::Turning(t) => turning::passes::put_turning(buf, k, t),
+        Cycle::Grooving(g) => grooving::plunges::put_grooving(buf, k, g),
+    }
+}

@@ -1,4 +1,3 @@
--- The laws of what a block does.
+-- The laws of the deeds of blocks.
 pub mod Doing
-pub mod Examples
-pub mod Judging
+pub mod Made

@@ -3,21 +3,23 @@
 -- (D3 is per side). .. Facing: exchange the axes, E from Z less D2, end line from X and D0, d = D3. .. Missing D0 and D2 are 0." G86: "alongside (X before Z)", "divides its X depth with
 -- 2 x D3", "a rapid back by twice the retract", "Facing: exchange axes, .. tool width 2 x D5, overlap 200, depth piece D3, single retract."
 use mathlib.Core.Bool.{Bool, true, false, cond, _||_}
-use Prim.Native.Nat.{ℕ, _+_, _*_, _<_}
+use Prim.Native.Nat.{ℕ, _+_, _*_}
 use lib.Dec.{ltb}
 use lib.ListN.{getD}
-use Rattle.block.specs.Rules.{has}
-use Rattle.block.specs.Words.{xSlot, zSlot, uSlot, wSlot, dFirst}
-use Rattle.block.specs.declared.codes.Motion.{Motion}
-use Rattle.block.specs.declared.codes.Motion.the-variants as motion
+use Rattle.block.specs.Slots.{has, xSlot, zSlot, uSlot, wSlot, dSlot, codeIn}
+use Rattle.codes.specs.declared.meaning.Motion.{Motion}
+use Rattle.codes.specs.declared.meaning.Motion.the-variants as motion
 use Rattle.block.specs.declared.words.Block.{Block}
-use Rattle.cycles.specs.declared.axis.Axis.{Axis}
+use Rattle.axes.specs.declared.axis.Axis.{Axis}
 use Rattle.grooving.specs.declared.groove.Groove.{Groove}
 use Rattle.grooving.specs.declared.groove.Way.{Way}
-use Rattle.state.specs.Modal.{codeIn}
-use Rattle.state.specs.declared.modal.Kept.{Kept}
-use Rattle.state.specs.declared.modal.Kept.the-variants as kept
-use Rattle.turning.specs.declared.cycle.Cycle.{Cycle}
+use Rattle.acts.specs.declared.acting.Kept.{Kept}
+use Rattle.acts.specs.declared.acting.Kept.the-variants as kept
+use Rattle.moves.specs.Kinds.{rapid, feed, thread, dwell}
+use Rattle.moves.specs.declared.record.Record.{Record}
+use Rattle.turning.specs.declared.cycle.Turning.{Turning}
+use Rattle.cycles.specs.Feeds.{leastOfFeed, leastOfPitch}
+use Rattle.cycles.specs.declared.Cycle.the-variants as cycle
 use Rattle.deeds.specs.declared.deed.Deed.{Deed}
 use Rattle.deeds.specs.declared.deed.Deed.the-variants as deed
 use Rattle.deeds.specs.declared.deed.Sending.{Sending}
@@ -36,27 +38,27 @@ isFacing b = ltb (placeOn b zSlot) (placeOn b xSlot)
 
 -- the D word of an index; "Missing D0 and D2 are 0"
 abbrev pub dWord : Block → ℕ → ℕ
-dWord b i = codeIn b (dFirst + i)
+dWord b i = codeIn b (dSlot i)
 
 -- the axes of a turning cycle
 abbrev pub xAxis : Block → Sending → Axis
-xAxis b s = record { start = s .x; target = s .xto; allowance = dWord b 0 }
+xAxis b s = record { start = s .x; target = s .«x_target»; allowance = dWord b 0 }
 
 abbrev pub zAxis : Block → Sending → Axis
-zAxis b s = record { start = s .z; target = s .zto; allowance = dWord b 2 }
+zAxis b s = record { start = s .z; target = s .«z_target»; allowance = dWord b 2 }
 
-unfoldable pub cycleOf : Block → Sending → Cycle
-cycleOf b s =
+unfoldable pub turningOf : Block → Sending → Turning
+turningOf b s =
     cond (isFacing b)
     (record { facing = true; infeed = zAxis b s; path = xAxis b s; division = dWord b 3; f = s .f; g95 = s .g95 })
     (record { facing = false; infeed = xAxis b s; path = zAxis b s; division = 2 * dWord b 3; f = s .f; g95 = s .g95 })
 
 -- the ways of a groove
 abbrev pub xWay : Sending → Way
-xWay s = record { start = s .x; target = s .xto }
+xWay s = record { start = s .x; target = s .«x_target» }
 
 abbrev pub zWay : Sending → Way
-zWay s = record { start = s .z; target = s .zto }
+zWay s = record { start = s .z; target = s .«z_target» }
 
 -- "overlap at least 1/10 mm"
 abbrev pub overlap : ℕ
@@ -68,20 +70,20 @@ grooveOf b s =
     (record { facing = true; depth = zWay s; width = xWay s; tool = 2 * dWord b 5; overlap = 2 * overlap; piece = dWord b 3; back = s .retract; dwell = dWord b 4; f = s .f; g95 = s .g95 })
     (record { facing = false; depth = xWay s; width = zWay s; tool = dWord b 5; overlap = overlap; piece = 2 * dWord b 3; back = 2 * s .retract; dwell = dWord b 4; f = s .f; g95 = s .g95 })
 
--- the deed of a motion; "Without a path word G00, G01 and G33 make no move"
+-- a straight move, where there is a path word: whether it is a G00, the least F that it takes (0 where none is asked for), and its record
+unfoldable pub straightIf : Bool → Bool → ℕ → Record → Deed
+straightIf path g00 least r = cond path (deed.Straight (record { rapid = g00; least = least; goes = r })) deed.Nothing
+
+-- the deed of a motion; "Without a path word G00, G01 and G33 make no move"; "A move by G01 .. needs 1 to 9999, by G33 10 to 9999"
 unfoldable pub moveOf : Motion → Block → Sending → Deed
-moveOf motion.Rapid b s = cond (hasPath b) (deed.Rapid (s .xto) (s .zto)) deed.Nothing
-moveOf motion.Feed b s = cond (hasPath b) (deed.Feed (s .xto) (s .zto)) deed.Nothing
-moveOf motion.Thread b s = cond (hasPath b) (deed.Thread (s .xto) (s .zto)) deed.Nothing
-moveOf motion.Dwell b s = deed.Dwell (dWord b 4)
-moveOf motion.Turning b s = deed.Turn (cycleOf b s)
-moveOf motion.Grooving b s = deed.Groove (grooveOf b s)
+moveOf motion.Rapid b s = straightIf (hasPath b) true 0 (rapid (s .«x_target») (s .«z_target»))
+moveOf motion.Feed b s = straightIf (hasPath b) false leastOfFeed (feed (s .«x_target») (s .«z_target») (s .f) (s .g95))
+moveOf motion.Thread b s = straightIf (hasPath b) false leastOfPitch (thread (s .«x_target») (s .«z_target») (s .f))
+moveOf motion.Dwell b s = deed.Dwell (dwell (s .x) (s .z) (dWord b 4))
+moveOf motion.Turning b s = deed.Cycle (cycle.Turning (turningOf b s))
+moveOf motion.Grooving b s = deed.Cycle (cycle.Grooving (grooveOf b s))
 
 -- the deed of a block, of its own motion (`blockMotion`) and not of the one it leaves kept
 unfoldable pub deedOf : Kept → Block → Sending → Deed
 deedOf (kept.Of m) b s = moveOf m b s
 deedOf kept.Nothing b s = cond (hasPath b) deed.Nowhere deed.Nothing
-
--- the D words of a block that was read
-pub record Small (b : Block) : Type 0 where
-  pub each : (i : ℕ) → i < 10 → dWord b i < 32_768

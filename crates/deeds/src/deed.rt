@@ -1,37 +1,43 @@
 // The deed of a block, and the cycles as their words give them: a cycle's D words and retract that count on a diameter are scaled here, and nowhere else.
 // (01, "G84": "d = 2 x D3 (D3 is per side)"; "G86": "2 x D3", "twice the retract", facing "tool width 2 x D5, overlap 200, depth piece D3, single retract".)
-use block::codes::Motion;
+use acts::acting::Kept;
+use axes::axis::Axis;
 use block::words::Block;
-use cycles::axis::Axis;
+use codes::meaning::Motion;
+use cycles::Cycle;
 use grooving::groove::Groove;
 use grooving::groove::Way;
-use state::modal::Kept;
-use turning::cycle::Cycle;
+use moves::record::Record;
+use turning::cycle::Turning;
 ghost use mathlib.Core.Path.{_≡_};
 ghost use Prim.Native.Nat.{_+_, _<_};
-ghost use Rattle.block.specs.Words.{dFirst};
-ghost use Rattle.state.specs.Modal.{codeIn};
-ghost use Rattle.deeds.specs.Deed.{hasPath, isFacing, cycleOf, grooveOf, moveOf, deedOf, Small};
+ghost use Rattle.block.specs.Slots.{dSlot, codeIn};
+ghost use Rattle.deeds.specs.Deed.{hasPath, isFacing, turningOf, grooveOf, straightIf, moveOf, deedOf};
+ghost use Rattle.deeds.specs.Known.{Small};
 
 pub enum Deed {
     // no move and no dwell
     Nothing,
     // a path word with no motion function (alarm 15)
     Nowhere,
-    Dwell(u32),
-    Rapid(i32, i32),
-    Feed(i32, i32),
-    Thread(i32, i32),
-    Turn(Cycle),
-    Groove(Groove),
+    Dwell(Record),
+    Straight(Straight),
+    Cycle(Cycle),
+}
+
+// A straight move: whether it is a G00, the least F that it takes (0 where none is asked for), and its record.
+pub struct Straight {
+    pub rapid: bool,
+    pub least: u32,
+    pub goes: Record,
 }
 
 // Where the axes stand and where the block sends them, the feed in force, and the retract of the settings.
 pub struct Sending {
     pub x: i32,
     pub z: i32,
-    pub xto: i32,
-    pub zto: i32,
+    pub x_target: i32,
+    pub z_target: i32,
     pub f: u32,
     pub g95: bool,
     pub retract: u32,
@@ -44,8 +50,8 @@ const OVERLAP: u32 = 100;
 fn has_path(b: Block) -> bool
     ensures { λ r. ⌜ r ≡ hasPath b ⌝ }
 {
-    let x = block::rules::has(b, block::words::X) | block::rules::has(b, block::words::U);
-    let z = block::rules::has(b, block::words::Z) | block::rules::has(b, block::words::W);
+    let x = block::words::has(b, block::words::X) | block::words::has(b, block::words::U);
+    let z = block::words::has(b, block::words::Z) | block::words::has(b, block::words::W);
     x | z
 }
 
@@ -68,30 +74,30 @@ fn wide(n: u8) -> u32
 // The D word of an index, 0 where there is none.
 fn d_word(b: Block, index: usize) -> u32
     requires { ⌜ Small b × (index < 10) ⌝ }
-    ensures { λ r. ⌜ (r ≡ codeIn b (dFirst + index)) × (r < 32_768) ⌝ }
+    ensures { λ r. ⌜ (r ≡ codeIn b (dSlot index)) × (r < 32_768) ⌝ }
 {
     let k = block::words::D + index;
-    state::modal::code_in(b, k)
+    block::words::code_in(b, k)
 }
 
 // A G84 block as a cycle.
-fn cycle_of(b: Block, s: Sending) -> Cycle
+fn turning_of(b: Block, s: Sending) -> Turning
     requires { ⌜ Small b ⌝ }
-    ensures { λ r. ⌜ r ≡ cycleOf b s ⌝ }
+    ensures { λ r. ⌜ r ≡ turningOf b s ⌝ }
 {
     let x = Axis {
         start: s.x,
-        target: s.xto,
+        target: s.x_target,
         allowance: d_word(b, 0),
     };
     let z = Axis {
         start: s.z,
-        target: s.zto,
+        target: s.z_target,
         allowance: d_word(b, 2),
     };
     let d3 = d_word(b, 3);
     if is_facing(b) {
-        return Cycle {
+        return Turning {
             facing: true,
             infeed: z,
             path: x,
@@ -100,7 +106,7 @@ fn cycle_of(b: Block, s: Sending) -> Cycle
             g95: s.g95,
         };
     }
-    Cycle {
+    Turning {
         facing: false,
         infeed: x,
         path: z,
@@ -117,11 +123,11 @@ fn groove_of(b: Block, s: Sending) -> Groove
 {
     let x = Way {
         start: s.x,
-        target: s.xto,
+        target: s.x_target,
     };
     let z = Way {
         start: s.z,
-        target: s.zto,
+        target: s.z_target,
     };
     let d3 = d_word(b, 3);
     let d4 = d_word(b, 4);
@@ -155,6 +161,16 @@ fn groove_of(b: Block, s: Sending) -> Groove
     }
 }
 
+// A straight move, where the block has a path word.
+fn straight_if(path: bool, rapid: bool, least: u32, goes: Record) -> Deed
+    ensures { λ r. ⌜ r ≡ straightIf path rapid least goes ⌝ }
+{
+    if path {
+        return Deed::Straight(Straight { rapid, least, goes });
+    }
+    Deed::Nothing
+}
+
 // The deed of a block whose motion is m.
 fn move_of(m: Motion, b: Block, s: Sending) -> Deed
     requires { ⌜ Small b × (s .retract < 32_768) ⌝ }
@@ -162,27 +178,22 @@ fn move_of(m: Motion, b: Block, s: Sending) -> Deed
 {
     let path = has_path(b);
     match m {
-        Motion::Dwell => Deed::Dwell(d_word(b, 4)),
-        Motion::Turning => Deed::Turn(cycle_of(b, s)),
-        Motion::Grooving => Deed::Groove(groove_of(b, s)),
-        Motion::Rapid => {
-            if path {
-                return Deed::Rapid(s.xto, s.zto);
-            }
-            Deed::Nothing
-        }
-        Motion::Feed => {
-            if path {
-                return Deed::Feed(s.xto, s.zto);
-            }
-            Deed::Nothing
-        }
-        Motion::Thread => {
-            if path {
-                return Deed::Thread(s.xto, s.zto);
-            }
-            Deed::Nothing
-        }
+        Motion::Rapid => straight_if(path, true, 0, Record::rapid(s.x_target, s.z_target)),
+        Motion::Feed => straight_if(
+            path,
+            false,
+            cycles::LEAST_FEED,
+            Record::feed(s.x_target, s.z_target, s.f, s.g95),
+        ),
+        Motion::Thread => straight_if(
+            path,
+            false,
+            cycles::LEAST_PITCH,
+            Record::thread(s.x_target, s.z_target, s.f),
+        ),
+        Motion::Dwell => Deed::Dwell(Record::dwell(s.x, s.z, d_word(b, 4))),
+        Motion::Turning => Deed::Cycle(Cycle::Turning(turning_of(b, s))),
+        Motion::Grooving => Deed::Cycle(Cycle::Grooving(groove_of(b, s))),
     }
 }
 

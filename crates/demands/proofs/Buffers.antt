@@ -14,25 +14,29 @@ use Rattle.moves.specs.Reading.{recordsIn}
 use Rattle.moves.specs.declared.record.Record.{Record}
 use Rattle.moves.proofs.OneReading.{length-row, length-header, row-append, read-after}
 use Rattle.turning.specs.Turned.{Turned}
-use Rattle.state.specs.Target.{Table, Sound}
+use Rattle.settings.specs.Known.{Table}
+use Rattle.state.specs.Known.{Sound}
 use Rattle.state.proofs.Ranges.{start-sound}
-use Rattle.machine.specs.Known.{InRange}
-use Rattle.machine.specs.Opens.{cycleIn}
-use Rattle.machine.specs.declared.run.Settings.{Settings}
+use Rattle.settings.specs.Known.{InRange}
+use Rattle.demands.specs.Opens.{turningIn}
+use Rattle.settings.specs.declared.control.Settings.{Settings}
 use Rattle.machine.proofs.Running.{sound-after}
-use Rattle.steps.specs.Ahead.{mostCalls}
+use Rattle.ahead.specs.Ahead.{mostCalls, onto}
 use Rattle.steps.specs.Steps.{Task, taskOf, Step, blockOn, runAfter}
 use Rattle.steps.specs.declared.step.Run.{Run}
 use Rattle.steps.proofs.Stepping.{worded-on}
-use Rattle.interpreter.specs.Answers.{Result, refused, answerBy, resultOf, startOf, whole, headed, laidBy}
+use Rattle.interpreter.specs.Answers.{Result, refused, resultOf, interpretation, laidBy}
+use Rattle.answers.specs.Answers.{answerBy, startOf, headed}
 use Rattle.runners.specs.Runs.{recordsOf, programRun}
-use Rattle.interpreter.specs.declared.interpret.Answer.{Answer}
-use Rattle.interpreter.specs.declared.interpret.Answer.the-variants.{Complete, Alarm}
-use Rattle.demands.specs.Demands.{Each, EveryCycle, EachFrom, lastOf, CutIn, task, Front, DemandThreeInBuffer}
+use Rattle.answers.specs.declared.Answer.{Answer}
+use Rattle.answers.specs.declared.Answer.the-variants.{Complete, Alarm}
+use Rattle.demands.specs.Demands.{Each, EveryCycle, EachFrom, CutIn, task, Front, DemandThreeInBuffer}
 use Rattle.demands.specs.Steps.{Done, Linked}
 use Rattle.demands.proofs.Cycles.{every-cycle}
 use Rattle.demands.proofs.Fits.{fitting-append, block-fitting, feed-after}
-use Rattle.demands.proofs.Standing.{last-append, block-stands}
+use Rattle.moves.specs.Last.{lastOf}
+use Rattle.cycles.proofs.Homes.{last-append}
+use Rattle.demands.proofs.Standing.{block-stands}
 use Rattle.demands.proofs.Linked.{free-own, program-leads}
 use Rattle.demands.proofs.Results.{every-result}
 
@@ -47,7 +51,7 @@ module _ (t : Task) (known : Table (t .table)) (range : InRange (t .settings)) w
   chain-fits [] r s h f l = tt
   chain-fits (st ∷ sts) r s h f l =
       let b = blockOn (t .tape) (st .place) in
-      let k = free-own t (l .0 .program) (l .0 .calls) (st .place) r (l .0 .free) in
+      let k = free-own t (onto (l .0 .frame) (st .place)) r (l .0 .free) in
       let w = worded-on (t .tape) (st .place) in (
         subst AllFitting (sym (l .0 .wrote)) (block-fitting (t .table) (t .settings) (r .state) b known range h f w (t .room - r .count) k),
         chain-fits sts (runAfter t (st .place) r) s (sound-after (t .table) (t .settings) (r .state) b (t .room - r .count) k range h)
@@ -97,7 +101,7 @@ read-from t h tail e v (st ∷ sts) r s lh is g f c l x z =
       λ o. record {
         x = ap (λ (q : Run). q .state .x) (l .0 .begun) ∙ x ∙ ap (lastOf (λ q. q .x) (t .settings .x)) before;
         z = ap (λ (q : Run). q .state .z) (l .0 .begun) ∙ z ∙ ap (lastOf (λ q. q .z) (t .settings .z)) before;
-        turned = subst (Turned (cycleIn (t .table) (t .settings) (st .before .state) b)) there (c .0 o);
+        turned = subst (Turned (turningIn (t .table) (t .settings) (st .before .state) b)) there (c .0 o);
       },
       subst (λ (n : ℕ). EachFrom (CutIn t e) n sts) (length-append v w) more,
     )
@@ -165,7 +169,7 @@ run-shown b header t known range sound p on =
     let r = startOf (t .settings) in
     let x = programRun t p mostCalls r in
     let l = program-leads t p mostCalls r on .linked in
-    let a = answerBy (x .outcome .how) (x .outcome .run .count) in
+    let a = answerBy (x .outcome .ending) (x .outcome .run .count) in
     let e = laid b (recordStart 0) (rowBytes (recordsOf (x .steps))) in
     let f = form b (recordsOf (x .steps)) header a in record {
       cycles = read-from t (f .before) (f .behind) (headed a e) [] (x .steps) r (x .outcome .run) (f .size) (f .is) tt
@@ -173,7 +177,7 @@ run-shown b header t known range sound p on =
     }
 
 module _ (tape : List ℕ) (table : List ℤ) (set : Settings) (b : List ℕ) where
-  shown : Shown (task tape table set (length b)) b (whole tape table set (length b))
+  shown : Shown (task tape table set (length b)) b (interpretation tape table set (length b))
   shown =
       every-result (λ t. Shown t b) tape table set (length b) (λ t alarm place _ _ _. none-shown t b alarm place)
       (λ h _ k first end p on. run-shown b h (taskOf (take end tape) table set first (length b)) (k .offsets) (k .range) (start-sound (set .x) (set .z) (k .starts .x) (k .starts .z)) p on)

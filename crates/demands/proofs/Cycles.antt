@@ -8,8 +8,9 @@ use lib.ListN.{length, length-append}
 use Rattle.moves.specs.declared.record.Record.{Record}
 use Rattle.turning.specs.Turned.{Turned}
 use Rattle.machine.specs.Blocks.{doneRecords}
-use Rattle.machine.specs.Opens.{cycleIn}
-use Rattle.machine.proofs.Opening.{block-turned}
+use Rattle.demands.specs.Opens.{turningIn}
+use Rattle.demands.proofs.Opening.{block-turned}
+use Rattle.ahead.specs.Ahead.{onto}
 use Rattle.steps.specs.Steps.{Task, Step, blockOn, runAfter}
 use Rattle.steps.specs.declared.step.Run.{Run}
 use Rattle.runners.specs.Runs.{recordsOf}
@@ -21,10 +22,10 @@ use Rattle.demands.proofs.Linked.{free-own}
 cut : (t : Task) (r : Run) (st : Step) → Done t r st → Cut t st
 cut t r st d opens =
     let b = blockOn (t .tape) (st .place) in
-    let well = free-own t (d .program) (d .calls) (st .place) r (d .free) in
+    let well = free-own t (onto (d .frame) (st .place)) r (d .free) in
     let turned = block-turned (t .table) (t .settings) (r .state) b opens (t .room - r .count) well in
-    subst (λ (v : List Record). Turned (cycleIn (t .table) (t .settings) (st .before .state) b) v) (sym (d .wrote))
-    (subst (λ (q : Run). Turned (cycleIn (t .table) (t .settings) (q .state) b) (doneRecords (t .table) (t .settings) (r .state) b)) (sym (d .begun)) turned)
+    subst (λ (v : List Record). Turned (turningIn (t .table) (t .settings) (st .before .state) b) v) (sym (d .wrote))
+    (subst (λ (q : Run). Turned (turningIn (t .table) (t .settings) (q .state) b) (doneRecords (t .table) (t .settings) (r .state) b)) (sym (d .begun)) turned)
 
 pub every-cycle : (t : Task) (sts : List Step) (r s : Run) → Linked t r sts s → EveryCycle t sts
 unfolding Linked Each

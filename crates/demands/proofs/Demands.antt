@@ -6,13 +6,14 @@ use Prim.Native.Nat.{ℕ, _+_, _<_}
 use native.Mathlib.Omega.{arith}
 use lib.IntN.{ℤ}
 use lib.ListN.{length, take}
-use Rattle.machine.specs.declared.run.Settings.{Settings}
-use Rattle.steps.specs.Ahead.{mostCalls}
+use Rattle.settings.specs.declared.control.Settings.{Settings}
+use Rattle.ahead.specs.Ahead.{mostCalls}
 use Rattle.steps.specs.Steps.{Task, taskOf}
-use Rattle.interpreter.specs.Answers.{countOf, Result, refused, answerBy, resultOf, startOf, whole}
+use Rattle.answers.specs.Answers.{countOf, answerBy, startOf}
+use Rattle.interpreter.specs.Answers.{Result, refused, resultOf, interpretation}
 use Rattle.runners.specs.Runs.{recordsOf, programRun}
-use Rattle.runners.specs.declared.run.How.{How}
-use Rattle.runners.specs.declared.run.How.the-variants.{Returned, Ended, Stopped}
+use Rattle.runners.specs.declared.run.Ending.{Ending}
+use Rattle.runners.specs.declared.run.Ending.the-variants.{Returned, Ended, Stopped}
 use Rattle.demands.specs.Demands.{Each, EveryCycle, task, DemandThree}
 use Rattle.demands.proofs.Cycles.{every-cycle, counted}
 use Rattle.demands.proofs.Linked.{program-leads}
@@ -23,7 +24,7 @@ record Shown (t : Task) (x : Result) : Type 0 where
   cycles : EveryCycle t (x .steps)
   count : countOf (x .answer) ≡ length (recordsOf (x .steps))
 
-pub count-by : (h : How) (n : ℕ) → countOf (answerBy h n) ≡ n
+pub count-by : (h : Ending) (n : ℕ) → countOf (answerBy h n) ≡ n
 unfolding answerBy
 count-by Ended n = refl
 count-by (Stopped alarm place) n = refl
@@ -43,11 +44,11 @@ run-shown t p on =
     let x = programRun t p mostCalls r in
     let l = program-leads t p mostCalls r on .linked in record {
       cycles = every-cycle t (x .steps) r (x .outcome .run) l;
-      count = count-by (x .outcome .how) (x .outcome .run .count) ∙ from-none (counted t (x .steps) r (x .outcome .run) l);
+      count = count-by (x .outcome .ending) (x .outcome .run .count) ∙ from-none (counted t (x .steps) r (x .outcome .run) l);
     }
 
 module _ (tape : List ℕ) (table : List ℤ) (set : Settings) (bytes : ℕ) where
-  shown : Shown (task tape table set bytes) (whole tape table set bytes)
+  shown : Shown (task tape table set bytes) (interpretation tape table set bytes)
   shown = every-result Shown tape table set bytes (λ t alarm place _ _ _. none-shown t alarm place) (λ _ _ _ first end p on. run-shown (taskOf (take end tape) table set first bytes) p on)
 
   pub demand-three : DemandThree tape table set bytes

@@ -9,25 +9,29 @@ use lib.ListN.{length, take, drop, length-append, length-take, length-drop}
 use lib.Seq.{take-at, drop-at}
 use Rattle.whole.specs.Bytes.{laid}
 use Rattle.whole.proofs.Laying.{laid-nil}
+use Rattle.alarms.specs.Given.{IsAlarm}
 use Rattle.moves.specs.Form.{headerSize, recordSize, recordStart, recordLimit, roomOf, headerBytes, rowBytes, listBytes, AllFitting, LawfulList}
 use Rattle.moves.specs.Reading.{recordsIn, countIn, listIn, rowIn}
 use Rattle.moves.specs.declared.record.Record.{Record}
 use Rattle.moves.proofs.OneReading.{length-row, length-list, read-after, list-read, one-reading}
-use Rattle.state.specs.Target.{Table, Sound}
+use Rattle.settings.specs.Known.{Table}
+use Rattle.state.specs.Known.{Sound}
 use Rattle.state.proofs.Ranges.{start-sound}
-use Rattle.machine.specs.Known.{InRange}
-use Rattle.machine.specs.declared.run.Settings.{Settings}
-use Rattle.machine.proofs.Running.{done-few, room-few, room-fits}
-use Rattle.steps.specs.Ahead.{mostCalls}
+use Rattle.settings.specs.Known.{InRange}
+use Rattle.settings.specs.declared.control.Settings.{Settings}
+use Rattle.machine.proofs.Running.{done-few}
+use Rattle.moves.proofs.Room.{room-few, room-fits}
+use Rattle.ahead.specs.Ahead.{mostCalls, onto}
 use Rattle.steps.specs.Steps.{Task, taskOf, Step, blockOn, runAfter}
 use Rattle.steps.specs.declared.step.Run.{Run}
-use Rattle.interpreter.specs.Answers.{countOf, Result, refused, answerBy, resultOf, startOf, longestTape, whole, headed, laidBy}
+use Rattle.answers.specs.Answers.{countOf, answerBy, startOf, headed}
+use Rattle.interpreter.specs.Answers.{Result, refused, resultOf, longestTape, interpretation, laidBy}
 use Rattle.runners.specs.Runs.{recordsOf, programRun}
-use Rattle.interpreter.specs.declared.interpret.Answer.{Answer}
-use Rattle.interpreter.specs.declared.interpret.Answer.the-variants.{Complete, Alarm}
-use Rattle.runners.specs.declared.run.How.{How}
-use Rattle.runners.specs.declared.run.How.the-variants.{Returned, Ended, Stopped}
-use Rattle.demands.specs.Demands.{Front, IsAlarm, HoldsAfter, Told, Owed, IsList, DemandOne, DemandTwo}
+use Rattle.answers.specs.declared.Answer.{Answer}
+use Rattle.answers.specs.declared.Answer.the-variants.{Complete, Alarm}
+use Rattle.runners.specs.declared.run.Ending.{Ending}
+use Rattle.runners.specs.declared.run.Ending.the-variants.{Returned, Ended, Stopped}
+use Rattle.demands.specs.Demands.{Front, HoldsAfter, Told, Owed, IsList, DemandOne, DemandTwo}
 use Rattle.demands.specs.Steps.{Linked}
 use Rattle.demands.proofs.Buffers.{AllFit, chain-fits, Form, form}
 use Rattle.demands.proofs.Cycles.{counted}
@@ -48,7 +52,7 @@ unfolding Linked runAfter
 chain-room t [] r s h l = omega (arith, h, ap (λ (q : Run). q .count) l)
 chain-room t (st ∷ sts) r s h l =
     let b = blockOn (t .tape) (st .place) in
-    let k = free-own t (l .0 .program) (l .0 .calls) (st .place) r (l .0 .free) in
+    let k = free-own t (onto (l .0 .frame) (st .place)) r (l .0 .free) in
     let few = done-few (t .table) (t .settings) (r .state) b (t .room - r .count) k in
     chain-room t sts (runAfter t (st .place) r) s (omega (arith, h, few)) (l .1)
 
@@ -107,12 +111,12 @@ none-shown : (size : ℕ) (b : List ℕ) (alarm place : ℕ) → IsAlarm alarm �
 none-shown size b alarm place some on near = record { one = none-owed size b alarm place some on near; two = λ count e. absurd (no-list alarm place 0 count e) }
 
 -- the numbers of an answer that a run comes to
-told-by : (h : How) (n cut size : ℕ) → cut ≤ size → size ≤ longestTape → StopsOn cut h → n ≤ recordLimit → Told size (answerBy h n)
+told-by : (h : Ending) (n cut size : ℕ) → cut ≤ size → size ≤ longestTape → StopsOn cut h → n ≤ recordLimit → Told size (answerBy h n)
 unfolding answerBy
 told-by Ended n cut size short near on few = record { number = tt; place = omega arith; near = omega arith; count = few }
 told-by (Stopped alarm place) n cut size short near on few =
     record { number = on .0; place = omega (arith, short, on .1); near = omega (arith, short, near, on .1); count = few }
-told-by Returned n cut size short near on few = record { number = (omega arith, omega arith); place = omega arith; near = omega arith; count = few }
+told-by Returned n cut size short near on few = record { number = refl; place = omega arith; near = omega arith; count = few }
 
 -- the count of a complete list
 complete-count : {a : Answer} {count : ℕ} → a ≡ Complete count → countOf a ≡ count
@@ -152,7 +156,7 @@ run-shown size b header t short near room known range sound p on =
     let l = leads .linked in
     let rs = recordsOf (x .steps) in
     let n = x .outcome .run .count in
-    let a = answerBy (x .outcome .how) n in
+    let a = answerBy (x .outcome .ending) n in
     let e = laid b (recordStart 0) (rowBytes rs) in
     let f : Form a b (headed a e) rs = form b rs header a in
     let fits : AllFitting rs = all-fit (x .steps) (chain-fits t known range (x .steps) r (x .outcome .run) sound (omega arith) l) in
@@ -162,10 +166,10 @@ run-shown size b header t short near room known range sound p on =
     let inside : recordStart (length rs) ≤ length b = omega (arith, many, room-fits (length b) n header (omega (arith, few, room))) in
     let lawful : LawfulList rs = record { few = omega (arith, many, few, room, room-few (length b)); each = fits } in record {
       one = record {
-        holds = holds a b (headed a e) rs f fits (count-by (x .outcome .how) n ∙ many) inside;
-        told = told-by (x .outcome .how) n (length (t .tape)) size short near (leads .stops) (omega (arith, few, room, room-few (length b)));
+        holds = holds a b (headed a e) rs f fits (count-by (x .outcome .ending) n ∙ many) inside;
+        told = told-by (x .outcome .ending) n (length (t .tape)) size short near (leads .stops) (omega (arith, few, room, room-few (length b)));
       };
-      two = λ count k. listed a b (headed a e) rs f lawful count k (sym (complete-count k) ∙ count-by (x .outcome .how) n ∙ many);
+      two = λ count k. listed a b (headed a e) rs f lawful count k (sym (complete-count k) ∙ count-by (x .outcome .ending) n ∙ many);
     }
 
 -- ---- of every input
@@ -173,7 +177,7 @@ cut-short : (end : ℕ) (tape : List ℕ) → length (take end tape) ≤ length 
 cut-short end tape = omega (arith, length-take end tape)
 
 module _ (tape : List ℕ) (table : List ℤ) (set : Settings) (b : List ℕ) where
-  shown : Shown (length tape) b (whole tape table set (length b))
+  shown : Shown (length tape) b (interpretation tape table set (length b))
   shown =
       every-result (λ _. Shown (length tape) b) tape table set (length b) (λ _ alarm place some on near. none-shown (length tape) b alarm place some on near)
       (λ h near k first end p on.

@@ -1,5 +1,7 @@
 -- The proofs of this crate.
 pub mod Table
+pub mod Quiet
+pub mod Opening
 pub mod Named
 pub mod Linked
 pub mod Results

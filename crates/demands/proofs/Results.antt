@@ -3,39 +3,38 @@
 use mathlib.Core.Path.{_≡_, refl}
 use mathlib.Core.Bool.{Bool, true, false, cond}
 use mathlib.Core.List.{List, [], _∷_}
-use Prim.Native.Nat.{ℕ, zero, suc, _-_, _<_, _≤_}
+use Prim.Native.Nat.{ℕ, _-_, _<_, _≤_}
 use native.Mathlib.Omega.{arith}
 use lib.Dec.{ltb, eqb}
 use lib.IntN.{ℤ}
 use lib.ListN.{length, take}
 use borrow.Author.Tests.{ltb-false, eqb-false}
+use Rattle.alarms.specs.Given.{IsAlarm}
 use Rattle.moves.specs.Form.{headerSize}
 use Rattle.tape.specs.Lines.{seekFrom, opensTape, Text, lines}
-use Rattle.block.specs.Rules.{judged}
-use Rattle.reading.specs.Finding.{findProgram}
+use Rattle.rules.specs.Rules.{judged}
+use Rattle.finding.specs.Finding.{findProgram}
 use Rattle.reading.specs.Reading.{History, nothingRead, lineAlarm, noted, endsWith, readLines, readOf}
-use Rattle.reading.specs.declared.find.Found.{Found}
-use Rattle.reading.specs.declared.find.Found.the-variants.{At, Nowhere}
+use Rattle.finding.specs.declared.Found.{Found}
+use Rattle.finding.specs.declared.Found.the-variants.{At, Nowhere}
 use Rattle.reading.specs.declared.read.Read.{Read}
 use Rattle.reading.specs.declared.read.Read.the-variants as read
-use Rattle.machine.specs.declared.run.Settings.{Settings}
-use Rattle.steps.specs.Ahead.{mostCalls}
+use Rattle.settings.specs.declared.control.Settings.{Settings}
+use Rattle.ahead.specs.Ahead.{mostCalls}
 use Rattle.steps.specs.Steps.{Task, taskOf}
-use Rattle.steps.proofs.Places.{AllIn, lines-in, FoundIn, program-on}
-use Rattle.interpreter.specs.Answers.{Result, refused, resultOf, startOf, mainBy, mainRun, readThen, longestTape, whole}
+use Rattle.ahead.proofs.Places.{AllIn, lines-in, FoundIn, program-on}
+use Rattle.interpreter.specs.Answers.{Result, refused, resultOf, mainBy, mainRun, readThen, longestTape, interpretation}
+use Rattle.answers.specs.Answers.{startOf}
 use Rattle.runners.specs.Runs.{programRun}
-use Rattle.interpreter.specs.Wrong.{settingsWrong, Right}
-use Rattle.interpreter.proofs.Right.{right}
-use Rattle.demands.specs.Demands.{IsAlarm, readTask, task}
-use Rattle.demands.proofs.Named.{line-named}
+use Rattle.settings.specs.Wrong.{settingsWrong}
+use Rattle.settings.specs.Known.{Right}
+use Rattle.settings.proofs.Right.{right}
+use Rattle.demands.specs.Demands.{readTask, task}
+use Rattle.demands.proofs.Named.{given-above, line-named}
 
 by-test : {A : Type 0} (P : A → Type 0) (c : Bool) (x y : A) → P x → (c ≡ false → P y) → P (cond c x y)
 by-test P true x y h k = h
 by-test P false x y h k = k refl
-
-above-none : (n : ℕ) → (n ≡ 0 → ⊥) → 0 < n
-above-none zero h = absurd (h refl)
-above-none (suc n) h = omega arith
 
 -- ---- an alarm of reading is one of 01's and has the place of a line, or of no byte on an empty tape
 abbrev AlarmOn : ℕ → Read → Type 0
@@ -50,13 +49,13 @@ lines-on first end n h (t ∷ ts) a =
     let rest = readLines first end (noted h (j .head)) ts in
     by-test (AlarmOn n) (eqb (lineAlarm h j) 0) _ (read.Alarm (lineAlarm h j) (t .place))
     (by-test (AlarmOn n) (endsWith (j .head) (j .ends)) (read.Whole first (t .after)) rest tt λ _. lines-on first end n (noted h (j .head)) ts (a .1))
-    (λ e. ((above-none (lineAlarm h j) (eqb-false (lineAlarm h j) 0 e), line-named h (t .bytes)), omega (arith, a .0)))
+    (λ e. (given-above (lineAlarm h j) (line-named h (t .bytes)) (eqb-false (lineAlarm h j) 0 e), omega (arith, a .0)))
 
 read-on : (tape : List ℕ) → AlarmOn (length tape) (readOf tape)
 unfolding readOf
 read-on tape =
     let first = seekFrom opensTape tape 0 in
-    by-test (AlarmOn (length tape)) (ltb first (length tape)) _ _ (lines-on first (length tape) (length tape) nothingRead (lines tape first) (lines-in tape first)) λ _. ((omega arith, omega arith), omega arith)
+    by-test (AlarmOn (length tape)) (ltb first (length tape)) _ _ (lines-on first (length tape) (length tape) nothingRead (lines tape first) (lines-in tape first)) λ _. (refl, omega arith)
 
 -- ---- what comes of every input
 module _ (P : Task → Result → Type 0) (tape : List ℕ) (table : List ℤ) (set : Settings) (bytes : ℕ)
@@ -67,19 +66,19 @@ module _ (P : Task → Result → Type 0) (tape : List ℕ) (table : List ℤ) (
       (f : Found) → FoundIn (length (t .tape)) f → P t (mainBy t f)
   unfolding mainBy
   main-is h n k first end (At p) on = some h n k first end p on
-  main-is h n k first end Nowhere on = none _ _ 0 (omega arith, omega arith) (omega arith) (omega arith)
+  main-is h n k first end Nowhere on = none _ _ 0 refl (omega arith) (omega arith)
 
   read-is : headerSize ≤ bytes → length tape ≤ longestTape → Right table set → (r : Read) → AlarmOn (length tape) r → P (readTask tape table set bytes r) (readThen tape table set bytes r)
   unfolding readThen mainRun
   read-is h n k (read.Whole first end) on = main-is h n k first end (findProgram (set .main) (lines (take end tape) first)) (program-on (set .main) (take end tape) first)
   read-is h n k (read.Alarm alarm place) on = none _ alarm place (on .0) (on .1) (omega (arith, n, on .1))
 
-  pub every-result : P (task tape table set bytes) (whole tape table set bytes)
-  unfolding whole
+  pub every-result : P (task tape table set bytes) (interpretation tape table set bytes)
+  unfolding interpretation
   every-result =
       let t = task tape table set bytes in
       let first : (alarm : ℕ) → IsAlarm alarm → P t (refused alarm 0) = λ alarm h. none t alarm 0 h (omega arith) (omega arith) in
-      by-test (P t) (settingsWrong table set) _ _ (first _ (omega arith, omega arith)) λ settings.
-      by-test (P t) (ltb longestTape (length tape)) _ _ (first _ (omega arith, omega arith)) λ short.
-      by-test (P t) (ltb bytes headerSize) _ _ (first _ (omega arith, omega arith)) λ long.
+      by-test (P t) (settingsWrong table set) _ _ (first _ refl) λ settings.
+      by-test (P t) (ltb longestTape (length tape)) _ _ (first _ refl) λ short.
+      by-test (P t) (ltb bytes headerSize) _ _ (first _ refl) λ long.
       read-is (ltb-false bytes headerSize long) (ltb-false longestTape (length tape) short) (right table set settings) (readOf tape) (read-on tape)

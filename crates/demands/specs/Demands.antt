@@ -11,17 +11,20 @@ use lib.ListN.{length, take, drop}
 use Rattle.moves.specs.Form.{headerSize, recordSize, recordLimit, recordStart, headerBytes, rowBytes, listBytes, LawfulList}
 use Rattle.moves.specs.Reading.{recordsIn, countIn, listIn}
 use Rattle.moves.specs.declared.record.Record.{Record}
+use Rattle.alarms.specs.Given.{IsAlarm}
 use Rattle.reading.specs.Reading.{readOf}
 use Rattle.reading.specs.declared.read.Read.{Read}
 use Rattle.reading.specs.declared.read.Read.the-variants as read
 use Rattle.turning.specs.Turned.{Turned}
-use Rattle.machine.specs.Opens.{opensTurning, cycleIn}
-use Rattle.machine.specs.declared.run.Settings.{Settings}
+use Rattle.moves.specs.Last.{lastOf}
+use Rattle.demands.specs.Opens.{opensTurning, turningIn}
+use Rattle.settings.specs.declared.control.Settings.{Settings}
 use Rattle.steps.specs.Steps.{Task, taskOf, Step, blockOn}
-use Rattle.interpreter.specs.Answers.{placeOf, countOf, Result, longestTape, whole, answerOf, bufferOf, laidBy}
+use Rattle.answers.specs.Answers.{placeOf, countOf}
+use Rattle.interpreter.specs.Answers.{Result, longestTape, interpretation, answerOf, bufferOf, laidBy}
 use Rattle.runners.specs.Runs.{recordsOf}
-use Rattle.interpreter.specs.declared.interpret.Answer.{Answer}
-use Rattle.interpreter.specs.declared.interpret.Answer.the-variants.{Complete, Alarm}
+use Rattle.answers.specs.declared.Answer.{Answer}
+use Rattle.answers.specs.declared.Answer.the-variants.{Complete, Alarm}
 
 -- P of each step
 unfoldable pub Each : (Step → Type 0) → List Step → Type 0
@@ -32,7 +35,7 @@ Each P (st ∷ sts) = P st × Each P sts
 abbrev pub Cut : Task → Step → Type 0
 Cut t st =
     opensTurning (blockOn (t .tape) (st .place)) ≡ true
-    → Turned (cycleIn (t .table) (t .settings) (st .before .state) (blockOn (t .tape) (st .place))) (st .records)
+    → Turned (turningIn (t .table) (t .settings) (st .before .state) (blockOn (t .tape) (st .place))) (st .records)
 
 -- every G84 of some steps
 abbrev pub EveryCycle : Task → List Step → Type 0
@@ -48,23 +51,18 @@ task tape table set bytes = readTask tape table set bytes (readOf tape)
 
 -- DEMAND 3, of every tape, table and settings, and every length of the buffer: every G84 that the run opened, with a division or without, in the main program, in subprograms and in repeats
 abbrev pub DemandThree : List ℕ → List ℤ → Settings → ℕ → Type 0
-DemandThree tape table set bytes = EveryCycle (task tape table set bytes) (whole tape table set bytes .steps)
+DemandThree tape table set bytes = EveryCycle (task tape table set bytes) (interpretation tape table set bytes .steps)
 
 -- the same, with the records read off the bytes e of the buffer: the step's records stand there from number k on
 unfoldable pub EachFrom : (Step → ℕ → Type 0) → ℕ → List Step → Type 0
 EachFrom P k [] = Unit {0}
 EachFrom P k (st ∷ sts) = P st k × EachFrom P (k + length (st .records)) sts
 
--- where an axis stands after some records, from x on; f is X or Z of a record
-abbrev pub lastOf : (Record → ℤ) → ℤ → List Record → ℤ
-lastOf f x [] = x
-lastOf f x (r ∷ rs) = lastOf f (f r) rs
-
 -- a G84 in the buffer: it starts where the records before it have left the axes, and its records keep its promise
 pub record TurnedIn (t : Task) (e : List ℕ) (st : Step) (k : ℕ) : Type 0 where
   pub x : st .before .state .x ≡ lastOf (λ r. r .x) (t .settings .x) (recordsIn e 0 k)
   pub z : st .before .state .z ≡ lastOf (λ r. r .z) (t .settings .z) (recordsIn e 0 k)
-  pub turned : Turned (cycleIn (t .table) (t .settings) (st .before .state) (blockOn (t .tape) (st .place))) (recordsIn e k (length (st .records)))
+  pub turned : Turned (turningIn (t .table) (t .settings) (st .before .state) (blockOn (t .tape) (st .place))) (recordsIn e k (length (st .records)))
 
 abbrev pub CutIn : Task → List ℕ → Step → ℕ → Type 0
 CutIn t e st k = opensTurning (blockOn (t .tape) (st .place)) ≡ true → TurnedIn t e st k
@@ -72,7 +70,7 @@ CutIn t e st k = opensTurning (blockOn (t .tape) (st .place)) ≡ true → Turne
 -- DEMAND 3, of every tape, table, settings and buffer b, said of the bytes that are in the buffer after the run
 abbrev pub DemandThreeInBuffer : List ℕ → List ℤ → Settings → List ℕ → Type 0
 DemandThreeInBuffer tape table set b =
-    EachFrom (CutIn (task tape table set (length b)) (bufferOf tape table set b)) 0 (whole tape table set (length b) .steps)
+    EachFrom (CutIn (task tape table set (length b)) (bufferOf tape table set b)) 0 (interpretation tape table set (length b) .steps)
 
 -- ---- demands 1 and 2
 -- the header's place: that of the list where it is complete, and as it came on an alarm
@@ -90,16 +88,13 @@ pub record HoldsAfter (a : Answer) (b e : List ℕ) (rs : List Record) : Type 0 
   pub behind : drop (recordStart (countOf a)) e ≡ drop (recordStart (countOf a)) b
   pub size : length e ≡ length b
 
--- an alarm is one of 01's twenty: 0 says that a list is complete
-abbrev pub IsAlarm : ℕ → Type 0
-IsAlarm n = (0 < n) × (n ≤ 20)
-
+-- an alarm is one of those that are given
 abbrev pub Named : Answer → Type 0
 Named (Complete count) = Unit {0}
 Named (Alarm alarm place count) = IsAlarm alarm
 
 -- what the numbers of an answer are, on a tape of so many bytes: the place is that of a byte of the tape, or 0, and has 16 bits; there are no more records than a list may have. (That it is
--- the place which 01 names is in the definition of `whole`.)
+-- the place which 01 names is in the definition of `interpretation`.)
 pub record Told (size : ℕ) (a : Answer) : Type 0 where
   pub number : Named a
   pub place : placeOf a ≤ size - 1
@@ -115,7 +110,7 @@ pub record Owed (size : ℕ) (x : Result) (b : List ℕ) : Type 0 where
 -- number, the place on the tape and the count of records written; the buffer then holds the records of the blocks finished before it, and all its other bytes are as they came." (A refused
 -- block is no step. That the work ends is in the contract of `interpret`, as in every contract: a function that is proved comes back.)
 abbrev pub DemandOne : List ℕ → List ℤ → Settings → List ℕ → Type 0
-DemandOne tape table set b = Owed (length tape) (whole tape table set (length b)) b
+DemandOne tape table set b = Owed (length tape) (interpretation tape table set (length b)) b
 
 -- a complete list of so many records: it is read off the bytes, its header has its count, and no other list has these bytes
 pub record IsList (count : ℕ) (e : List ℕ) (rs : List Record) : Type 0 where
@@ -129,4 +124,4 @@ pub record IsList (count : ℕ) (e : List ℕ) (rs : List Record) : Type 0 where
 -- DEMAND 2, of every tape, table, settings and buffer: where the answer is a list, its bytes are those of the run's records and have no other reading
 abbrev pub DemandTwo : List ℕ → List ℤ → Settings → List ℕ → Type 0
 DemandTwo tape table set b =
-    (count : ℕ) → answerOf tape table set (length b) ≡ Complete count → IsList count (bufferOf tape table set b) (recordsOf (whole tape table set (length b) .steps))
+    (count : ℕ) → answerOf tape table set (length b) ≡ Complete count → IsList count (bufferOf tape table set b) (recordsOf (interpretation tape table set (length b) .steps))

@@ -1,4 +1,5 @@
 -- The statements of this crate.
 pub mod Table
 pub mod Steps
+pub mod Opens
 pub mod Demands

@@ -1,17 +1,17 @@
 -- The steps of a run as a chain: each begins in the run that the one before has left. Laws about runs go along this chain and know nothing of calls, repeats and fuel.
 use mathlib.Core.Path.{_≡_}
 use mathlib.Core.List.{List, [], _∷_}
-use Prim.Native.Nat.{ℕ}
 use Rattle.machine.specs.Blocks.{doneRecords}
+use Rattle.ahead.specs.Ahead.{onto}
 use Rattle.steps.specs.Steps.{Task, Step, blockOn, alarmAt, runAfter}
+use Rattle.ahead.specs.declared.Frame.{Frame}
 use Rattle.steps.specs.declared.step.Run.{Run}
 
--- a step that was taken from the run r: its block had no alarm, in some program and with some calls left, and its records are those of the block
+-- a step that was taken from the run r: its block had no alarm, in some program and with some calls left (the frame), and its records are those of the block
 pub record Done (t : Task) (r : Run) (st : Step) : Type 0 where
-  pub program : ℕ
-  pub calls : ℕ
+  pub frame : Frame
   pub begun : st .before ≡ r
-  pub free : alarmAt t program calls (st .place) r ≡ 0
+  pub free : alarmAt t (onto frame (st .place)) r ≡ 0
   pub wrote : st .records ≡ doneRecords (t .table) (t .settings) (r .state) (blockOn (t .tape) (st .place))
 
 -- from the run r the steps lead to the run s

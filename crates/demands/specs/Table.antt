@@ -1,40 +1,27 @@
--- 01, "Pieces that must come out so": P1 to P10 as a single table. Cases by tape go through all definitions, with the settings of `listmoves`; places on a tape count from 0.
+-- 01, "Pieces that must come out so": P1 to P10 as a single table, and the listing that it prints. Cases by tape go through all definitions, with the settings of `listmoves`; places on a tape count from 0.
 use mathlib.Core.Bool.{Bool, true, false, _&&_}
 use mathlib.Core.List.{List, [], _∷_, _++_}
 use Prim.Native.Nat.{ℕ}
 use Prim.Native.String.{String}
 use lib.Dec.{eqb}
-use lib.IntN.{ℤ, pos, negsuc}
+use lib.IntN.{ℤ, pos}
 use lib.Signed.{leZ}
-use lib.ListN.{replicate}
+use Rattle.whole.specs.Signed.{minus}
 use Rattle.division.specs.Division.{count, pieces}
 use Rattle.moves.specs.Kinds.{rapid, feed, miscellaneous}
 use Rattle.moves.specs.declared.record.Record.{Record}
-use Rattle.tape.specs.Text.{bytes}
-use Rattle.tape.specs.Words.{nextWord}
-use Rattle.tape.specs.declared.word.Next.{Next}
-use Rattle.tape.specs.declared.word.Next.the-variants as next
-use Rattle.machine.specs.declared.run.Settings.{Settings}
-use Rattle.interpreter.specs.Answers.{numberOf, placeOf, countOf, Result, whole}
+use Rattle.letters.specs.Text.{bytes}
+use Rattle.addresses.specs.Words.{nextWord}
+use Rattle.addresses.specs.declared.NextWord.{NextWord}
+use Rattle.addresses.specs.declared.NextWord.the-variants as next
+use Rattle.settings.specs.Listmoves.{listmoves, noOffsets}
+use Rattle.answers.specs.Answers.{numberOf, placeOf, countOf}
+use Rattle.interpreter.specs.Answers.{Result, interpretation}
 use Rattle.runners.specs.Runs.{recordsOf}
-
--- "with main 1, lowest subroutine 80, retract 500, start X 60000 Z 50000, limits -200000 to 200000, table zero"
-abbrev pub listmoves : Settings
-listmoves = record {
-  main = 1;
-  lowest = 80;
-  retract = 500;
-  x = pos 60000;
-  z = pos 50000;
-  limits = record { x = record { lowest = negsuc 199999; highest = pos 200000 }; z = record { lowest = negsuc 199999; highest = pos 200000 } };
-}
-
-abbrev pub zeros : List ℤ
-zeros = replicate 208 (pos 0)
 
 -- what comes of a tape, in a buffer of 64,008 bytes
 abbrev pub comesOf : String → Result
-comesOf text = whole (bytes text) zeros listmoves 64_008
+comesOf text = interpretation (bytes text) noOffsets listmoves 64_008
 
 -- ---- one question each
 pub data Case : Type 0 where
@@ -66,7 +53,7 @@ sameRecords [] (s ∷ ss) = false
 sameRecords (r ∷ rs) [] = false
 sameRecords (r ∷ rs) (s ∷ ss) = sameRecord r s && sameRecords rs ss
 
-abbrev isValue : Next → ℤ → Bool
+abbrev isValue : NextWord → ℤ → Bool
 isValue (next.Word w end) v = sameZ (w .value) v
 isValue next.End v = false
 isValue next.Fault v = false
@@ -91,75 +78,75 @@ allHold (c ∷ cs) = holds c && allHold cs
 -- P6: "plunges at Z -24, -26.5, -29; depth four of 2,667 and two of 2,666 (diameter); 39 records"
 abbrev grooves : List Record
 grooves =
-    feed (pos 39333) (negsuc 23999) 120 true
-    ∷ rapid (pos 40333) (negsuc 23999)
-    ∷ feed (pos 36666) (negsuc 23999) 120 true
-    ∷ rapid (pos 37666) (negsuc 23999)
-    ∷ feed (pos 33999) (negsuc 23999) 120 true
-    ∷ rapid (pos 34999) (negsuc 23999)
-    ∷ feed (pos 31332) (negsuc 23999) 120 true
-    ∷ rapid (pos 32332) (negsuc 23999)
-    ∷ feed (pos 28666) (negsuc 23999) 120 true
-    ∷ rapid (pos 29666) (negsuc 23999)
-    ∷ feed (pos 26000) (negsuc 23999) 120 true
-    ∷ rapid (pos 42000) (negsuc 23999)
-    ∷ rapid (pos 42000) (negsuc 26499)
-    ∷ feed (pos 39333) (negsuc 26499) 120 true
-    ∷ rapid (pos 40333) (negsuc 26499)
-    ∷ feed (pos 36666) (negsuc 26499) 120 true
-    ∷ rapid (pos 37666) (negsuc 26499)
-    ∷ feed (pos 33999) (negsuc 26499) 120 true
-    ∷ rapid (pos 34999) (negsuc 26499)
-    ∷ feed (pos 31332) (negsuc 26499) 120 true
-    ∷ rapid (pos 32332) (negsuc 26499)
-    ∷ feed (pos 28666) (negsuc 26499) 120 true
-    ∷ rapid (pos 29666) (negsuc 26499)
-    ∷ feed (pos 26000) (negsuc 26499) 120 true
-    ∷ rapid (pos 42000) (negsuc 26499)
-    ∷ rapid (pos 42000) (negsuc 28999)
-    ∷ feed (pos 39333) (negsuc 28999) 120 true
-    ∷ rapid (pos 40333) (negsuc 28999)
-    ∷ feed (pos 36666) (negsuc 28999) 120 true
-    ∷ rapid (pos 37666) (negsuc 28999)
-    ∷ feed (pos 33999) (negsuc 28999) 120 true
-    ∷ rapid (pos 34999) (negsuc 28999)
-    ∷ feed (pos 31332) (negsuc 28999) 120 true
-    ∷ rapid (pos 32332) (negsuc 28999)
-    ∷ feed (pos 28666) (negsuc 28999) 120 true
-    ∷ rapid (pos 29666) (negsuc 28999)
-    ∷ feed (pos 26000) (negsuc 28999) 120 true
-    ∷ rapid (pos 42000) (negsuc 28999)
-    ∷ rapid (pos 42000) (negsuc 23999)
+    feed (pos 39333) (minus 24000) 120 true
+    ∷ rapid (pos 40333) (minus 24000)
+    ∷ feed (pos 36666) (minus 24000) 120 true
+    ∷ rapid (pos 37666) (minus 24000)
+    ∷ feed (pos 33999) (minus 24000) 120 true
+    ∷ rapid (pos 34999) (minus 24000)
+    ∷ feed (pos 31332) (minus 24000) 120 true
+    ∷ rapid (pos 32332) (minus 24000)
+    ∷ feed (pos 28666) (minus 24000) 120 true
+    ∷ rapid (pos 29666) (minus 24000)
+    ∷ feed (pos 26000) (minus 24000) 120 true
+    ∷ rapid (pos 42000) (minus 24000)
+    ∷ rapid (pos 42000) (minus 26500)
+    ∷ feed (pos 39333) (minus 26500) 120 true
+    ∷ rapid (pos 40333) (minus 26500)
+    ∷ feed (pos 36666) (minus 26500) 120 true
+    ∷ rapid (pos 37666) (minus 26500)
+    ∷ feed (pos 33999) (minus 26500) 120 true
+    ∷ rapid (pos 34999) (minus 26500)
+    ∷ feed (pos 31332) (minus 26500) 120 true
+    ∷ rapid (pos 32332) (minus 26500)
+    ∷ feed (pos 28666) (minus 26500) 120 true
+    ∷ rapid (pos 29666) (minus 26500)
+    ∷ feed (pos 26000) (minus 26500) 120 true
+    ∷ rapid (pos 42000) (minus 26500)
+    ∷ rapid (pos 42000) (minus 29000)
+    ∷ feed (pos 39333) (minus 29000) 120 true
+    ∷ rapid (pos 40333) (minus 29000)
+    ∷ feed (pos 36666) (minus 29000) 120 true
+    ∷ rapid (pos 37666) (minus 29000)
+    ∷ feed (pos 33999) (minus 29000) 120 true
+    ∷ rapid (pos 34999) (minus 29000)
+    ∷ feed (pos 31332) (minus 29000) 120 true
+    ∷ rapid (pos 32332) (minus 29000)
+    ∷ feed (pos 28666) (minus 29000) 120 true
+    ∷ rapid (pos 29666) (minus 29000)
+    ∷ feed (pos 26000) (minus 29000) 120 true
+    ∷ rapid (pos 42000) (minus 29000)
+    ∷ rapid (pos 42000) (minus 24000)
     ∷ []
 
 -- P7: "X 30, 26, 22; Z -0.75, -2.5, -4.25, -6"
 abbrev faced : List Record
 faced =
-    feed (pos 30000) (negsuc 749) 120 true
-    ∷ rapid (pos 30000) (negsuc 249)
-    ∷ feed (pos 30000) (negsuc 2499) 120 true
-    ∷ rapid (pos 30000) (negsuc 1999)
-    ∷ feed (pos 30000) (negsuc 4249) 120 true
-    ∷ rapid (pos 30000) (negsuc 3749)
-    ∷ feed (pos 30000) (negsuc 5999) 120 true
+    feed (pos 30000) (minus 750) 120 true
+    ∷ rapid (pos 30000) (minus 250)
+    ∷ feed (pos 30000) (minus 2500) 120 true
+    ∷ rapid (pos 30000) (minus 2000)
+    ∷ feed (pos 30000) (minus 4250) 120 true
+    ∷ rapid (pos 30000) (minus 3750)
+    ∷ feed (pos 30000) (minus 6000) 120 true
     ∷ rapid (pos 30000) (pos 1000)
     ∷ rapid (pos 26000) (pos 1000)
-    ∷ feed (pos 26000) (negsuc 749) 120 true
-    ∷ rapid (pos 26000) (negsuc 249)
-    ∷ feed (pos 26000) (negsuc 2499) 120 true
-    ∷ rapid (pos 26000) (negsuc 1999)
-    ∷ feed (pos 26000) (negsuc 4249) 120 true
-    ∷ rapid (pos 26000) (negsuc 3749)
-    ∷ feed (pos 26000) (negsuc 5999) 120 true
+    ∷ feed (pos 26000) (minus 750) 120 true
+    ∷ rapid (pos 26000) (minus 250)
+    ∷ feed (pos 26000) (minus 2500) 120 true
+    ∷ rapid (pos 26000) (minus 2000)
+    ∷ feed (pos 26000) (minus 4250) 120 true
+    ∷ rapid (pos 26000) (minus 3750)
+    ∷ feed (pos 26000) (minus 6000) 120 true
     ∷ rapid (pos 26000) (pos 1000)
     ∷ rapid (pos 22000) (pos 1000)
-    ∷ feed (pos 22000) (negsuc 749) 120 true
-    ∷ rapid (pos 22000) (negsuc 249)
-    ∷ feed (pos 22000) (negsuc 2499) 120 true
-    ∷ rapid (pos 22000) (negsuc 1999)
-    ∷ feed (pos 22000) (negsuc 4249) 120 true
-    ∷ rapid (pos 22000) (negsuc 3749)
-    ∷ feed (pos 22000) (negsuc 5999) 120 true
+    ∷ feed (pos 22000) (minus 750) 120 true
+    ∷ rapid (pos 22000) (minus 250)
+    ∷ feed (pos 22000) (minus 2500) 120 true
+    ∷ rapid (pos 22000) (minus 2000)
+    ∷ feed (pos 22000) (minus 4250) 120 true
+    ∷ rapid (pos 22000) (minus 3750)
+    ∷ feed (pos 22000) (minus 6000) 120 true
     ∷ rapid (pos 22000) (pos 1000)
     ∷ rapid (pos 30000) (pos 1000)
     ∷ []
@@ -174,7 +161,7 @@ table =
     ∷ divides 1 1 (1 ∷ [])
     -- P6 and P7
     ∷ lists "%1\nN10 G00 X42. Z-24.\nN20 G86 X26. Z-32. D3=1500 D5=3000 F120\nN30 M30"
-    (rapid (pos 42000) (negsuc 23999) ∷ grooves ++ (miscellaneous (pos 42000) (negsuc 23999) 30 ∷ []))
+    (rapid (pos 42000) (minus 24000) ∷ grooves ++ (miscellaneous (pos 42000) (minus 24000) 30 ∷ []))
     ∷ lists "%1\nN10 G00 X30. Z1.\nN20 G86 Z-6. X16. D3=2000 D5=3000 F120\nN30 M30"
     (rapid (pos 30000) (pos 1000) ∷ faced ++ (miscellaneous (pos 30000) (pos 1000) 30 ∷ []))
     -- P8
@@ -192,4 +179,17 @@ table =
     ∷ [])
     -- P10
     ∷ alarms "%1\nN10 T0101\nN20 G01 X1.\nN30 M30" 16 13 1
+    -- the listing that 01 prints
+    ∷ lists "%1\nN10 G00 X40. Z2.\nN20 G84 X30. Z-20. D0=400 D2=100 D3=2500 F120\nN30 M30"
+    (rapid (pos 40000) (pos 2000)
+    ∷ rapid (pos 35200) (pos 2000)
+    ∷ feed (pos 35200) (minus 19900) 120 true
+    ∷ feed (pos 40000) (minus 19900) 120 true
+    ∷ rapid (pos 40000) (pos 2000)
+    ∷ rapid (pos 30400) (pos 2000)
+    ∷ feed (pos 30400) (minus 19900) 120 true
+    ∷ feed (pos 40000) (minus 19900) 120 true
+    ∷ rapid (pos 40000) (pos 2000)
+    ∷ miscellaneous (pos 40000) (pos 2000) 30
+    ∷ [])
     ∷ []

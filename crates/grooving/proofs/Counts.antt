@@ -16,8 +16,8 @@ use Rattle.whole.specs.Signed.{along}
 use Rattle.whole.proofs.Sides.{toward}
 use Rattle.moves.specs.declared.record.Record.{Record}
 use Rattle.moves.specs.Form.{Fitting, AllFitting}
-use Rattle.cycles.specs.Goes.{dwellAt}
-use Rattle.cycles.proofs.Fitting.{rapid-fitting, feed-fitting, dwell-fitting}
+use Rattle.axes.specs.Goes.{dwellAt}
+use Rattle.axes.proofs.Fitting.{rapid-fitting, feed-fitting, dwell-fitting}
 use Rattle.grooving.specs.declared.groove.Way.{Way}
 use Rattle.grooving.specs.declared.groove.Groove.{Groove}
 use Rattle.grooving.specs.Grooving.{lengthOf, wrong, rest, stepCount, steps, cuts, outTo, deepAt, cutting, dwelling, plunge, plunges, afterFirst, grooving, plungeCount, recordCount}

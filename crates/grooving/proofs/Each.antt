@@ -15,7 +15,7 @@ use Rattle.whole.specs.Signed.{along}
 use Rattle.division.specs.Division.{sum}
 use Rattle.whole.proofs.Sides.{along-add, along-zero, arrives}
 use Rattle.moves.specs.declared.record.Record.{Record}
-use Rattle.cycles.specs.Goes.{dwellAt}
+use Rattle.axes.specs.Goes.{dwellAt}
 use Rattle.grooving.specs.declared.groove.Groove.{Groove}
 use Rattle.grooving.specs.Grooving.{lengthOf, wayOf, wrong, rest, steps, lastWidth, cuts, cutTo, outTo, deepAt, cutting, dwelling, plunge, plunges, afterFirst, grooving}
 use Rattle.grooving.proofs.Rows.{some-cuts, cuts-length, cuts-sum, steps-sum}

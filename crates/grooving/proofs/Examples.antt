@@ -9,7 +9,7 @@ use lib.ListN.{length}
 use Rattle.division.specs.Division.{count, pieces}
 use Rattle.moves.specs.declared.record.Record.{Record}
 use Rattle.moves.specs.Kinds.{rapid, feed, dwell}
-use Rattle.cycles.specs.Goes.{rapidTo, feedTo, dwellAt}
+use Rattle.axes.specs.Goes.{rapidTo, feedTo, dwellAt}
 use Rattle.grooving.specs.declared.groove.Groove.{Groove}
 use Rattle.grooving.specs.Grooving.{wrong, stepCount, steps, lastWidth, cutCount, cuts, cutting, dwelling, plunge, plunges, grooving, plungeCount, recordCount}
 

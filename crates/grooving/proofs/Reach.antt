@@ -8,10 +8,11 @@ use Prim.Native.Nat.{ℕ, _≤_}
 use lib.IntN.{ℤ}
 use Rattle.whole.specs.declared.signed.Side.the-variants.{Minus}
 use Rattle.moves.specs.declared.record.Record.{Record}
-use Rattle.cycles.specs.declared.limits.Limits.{Limits}
-use Rattle.cycles.specs.Limits.{outsideSpan, outside, outsideTo, anyOutside}
-use Rattle.cycles.proofs.Reaching.{span-between}
-use Rattle.cycles.proofs.Places.{alike, neither, both, inSpan, acrossSpan, Within, within, not-outside, rapid-ends, feed-ends, dwell-ends}
+use Rattle.settings.specs.declared.limits.Limits.{Limits}
+use Rattle.settings.specs.Limits.{outsideSpan, outside}
+use Rattle.axes.specs.Limits.{outsideTo, anyOutside}
+use Rattle.axes.proofs.Reaching.{span-between}
+use Rattle.axes.proofs.Places.{alike, neither, both, inSpan, acrossSpan, Within, within, not-outside, rapid-ends, feed-ends, dwell-ends}
 use Rattle.grooving.specs.declared.groove.Groove.{Groove}
 use Rattle.grooving.specs.Grooving.{lengthOf, wayOf, wrong, rest, lastWidth, deepAt, grooving}
 use Rattle.grooving.proofs.Each.{Every, widthAt, deep-target, grooving-every, first-out, last-bottom}

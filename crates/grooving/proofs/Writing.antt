@@ -26,7 +26,7 @@ use Rattle.moves.specs.declared.record.Record.{Record}
 use Rattle.moves.specs.Form.{recordStart, recordBytes, rowBytes}
 use Rattle.moves.proofs.Rows.{row-on, one-on}
 use Rattle.moves.proofs.OneReading.{length-row}
-use Rattle.cycles.specs.Goes.{rapidTo, feedTo, dwellAt}
+use Rattle.axes.specs.Goes.{rapidTo, feedTo, dwellAt}
 use Rattle.grooving.specs.declared.groove.Groove.{Groove}
 use Rattle.grooving.specs.Grooving.{lengthOf, wrong, rest, stepCount, steps, cutCount, cuts, cutTo, outTo, deepAt, cutting, dwelling, plunge, plunges, afterFirst, grooving, plungeCount, recordCount}
 use Rattle.grooving.proofs.Rows.{some-cuts, cuts-length, few-plunge, no-steps, steps-are, steps-length}

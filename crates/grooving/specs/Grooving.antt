@@ -14,7 +14,7 @@ use Rattle.whole.specs.declared.signed.Side.the-variants.{Minus}
 use Rattle.whole.specs.Signed.{sideOf, along}
 use Rattle.division.specs.Division.{count, pieces}
 use Rattle.moves.specs.declared.record.Record.{Record}
-use Rattle.cycles.specs.Goes.{rapidTo, feedTo, dwellAt}
+use Rattle.axes.specs.Goes.{rapidTo, feedTo, dwellAt}
 use Rattle.grooving.specs.declared.groove.Way.{Way}
 use Rattle.grooving.specs.declared.groove.Groove.{Groove}
 

@@ -1,10 +1,10 @@
 // A grooving cycle as its block gives it, and what is asked of it before a record is written.
 // None of these opens the cycle: each costs the same for one plunge and for millions.
-use cycles::limits::Limits;
+use settings::limits::Limits;
 ghost use mathlib.Core.Path.{_≡_};
 ghost use mathlib.Core.Bool.{false};
 ghost use Prim.Native.Nat.{_<_};
-ghost use Rattle.cycles.specs.Limits.{anyOutside};
+ghost use Rattle.axes.specs.Limits.{anyOutside};
 ghost use Rattle.grooving.specs.Grooving.{lengthOf, wrong, stepCount, cutCount, plungeCount, lastWidth, recordCount, grooving};
 
 // Where an axis stands and where the block sends it.
@@ -124,7 +124,7 @@ pub fn ends_outside(g: Groove, l: Limits) -> bool
     let depth = g.depth;
     let width = g.width;
     let facing = g.facing;
-    let at_start = cycles::limits::is_outside_to(l, facing, depth.start, width.start);
+    let at_start = axes::limits::is_outside_to(l, facing, depth.start, width.start);
     let last = last_width(g);
-    at_start | cycles::limits::is_outside_to(l, facing, depth.target, last)
+    at_start | axes::limits::is_outside_to(l, facing, depth.target, last)
 }

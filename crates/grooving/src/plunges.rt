@@ -52,13 +52,13 @@ fn put_cuts(buf: &mut [u8], k: usize, g: Groove, w: i32)
         let cut = deep_at(g, t);
         let out = deep_at(g, drawn_back(t, back));
         let second = next + 1;
-        cycles::goes::put_feed(buf, next, facing, f, g95, cut, w);
-        cycles::goes::put_rapid(buf, second, facing, out, w);
+        axes::goes::put_feed(buf, next, facing, f, g95, cut, w);
+        axes::goes::put_rapid(buf, second, facing, out, w);
         next += 2;
         done += 1;
     }
     let bottom = deep_at(g, deep);
-    cycles::goes::put_feed(buf, next, facing, f, g95, bottom, w);
+    axes::goes::put_feed(buf, next, facing, f, g95, bottom, w);
 }
 
 // Writes a plunge at the width place w, from record k on: the cuts, the dwell if there is one, the rapid out.
@@ -73,12 +73,12 @@ fn put_plunge(buf: &mut [u8], k: usize, g: Groove, w: i32)
     let bottom = k + 2 * n - 1;
     put_cuts(buf, k, g, w);
     if dwell == 0 {
-        cycles::goes::put_rapid(buf, bottom, facing, depth.start, w);
+        axes::goes::put_rapid(buf, bottom, facing, depth.start, w);
         return;
     }
     let out = bottom + 1;
-    cycles::goes::put_dwell(buf, bottom, facing, dwell, depth.target, w);
-    cycles::goes::put_rapid(buf, out, facing, depth.start, w);
+    axes::goes::put_dwell(buf, bottom, facing, dwell, depth.target, w);
+    axes::goes::put_rapid(buf, out, facing, depth.start, w);
 }
 
 // Writes the plunges behind the first, each with the rapid to it, and the rapid back to the start, from record k on.
@@ -101,12 +101,12 @@ fn put_others(buf: &mut [u8], k: usize, g: Groove)
         let by = division::line_after(rest, n, behind);
         let w = whole::signed::step(start, whole::signed::Side::Minus, by);
         let first = next + 1;
-        cycles::goes::put_rapid(buf, next, facing, home, w);
+        axes::goes::put_rapid(buf, next, facing, home, w);
         put_plunge(buf, first, g, w);
         next += size;
         done += 1;
     }
-    cycles::goes::put_rapid(buf, next, facing, home, start);
+    axes::goes::put_rapid(buf, next, facing, home, start);
 }
 
 // Writes the records of a groove, from record k on.

@@ -1,4 +1,3 @@
 -- The laws of this crate, for the crates built on it.
-pub mod Right
 pub mod Within
 pub mod Whole

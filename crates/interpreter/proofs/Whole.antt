@@ -1,4 +1,4 @@
--- The whole run: what the code answers and leaves in the buffer is what is defined, one law for each way out.
+-- The interpretation run: what the code answers and leaves in the buffer is what is defined, one law for each way out.
 -- Assumes nothing.
 use mathlib.Core.Path.{_≡_, refl, sym, ap, _∙_, subst}
 use mathlib.Core.Bool.{true, false}
@@ -12,25 +12,29 @@ use Rattle.whole.proofs.Laying.{laid-nil}
 use Rattle.alarms.specs.Numbers.{badSettings, tapeTooLong, bufferTooShort, programMissing}
 use Rattle.moves.specs.Form.{headerSize, recordStart, recordLimit, rowBytes}
 use Rattle.tape.specs.Lines.{lines}
-use Rattle.reading.specs.Finding.{findProgram}
+use Rattle.finding.specs.Finding.{findProgram}
 use Rattle.reading.specs.Reading.{readOf}
-use Rattle.reading.specs.declared.find.Found.{Found}
-use Rattle.reading.specs.declared.find.Found.the-variants.{At, Nowhere}
+use Rattle.finding.specs.declared.Found.{Found}
+use Rattle.finding.specs.declared.Found.the-variants.{At, Nowhere}
 use Rattle.reading.specs.declared.read.Read.{Read}
 use Rattle.state.proofs.Ranges.{start-sound}
-use Rattle.machine.specs.declared.run.Settings.{Settings}
-use Rattle.machine.proofs.Running.{room-few}
-use Rattle.steps.specs.Ahead.{mostCalls}
-use Rattle.steps.specs.Steps.{Task, taskOf, Ready, Fit, Needs}
+use Rattle.settings.specs.declared.control.Settings.{Settings}
+use Rattle.moves.proofs.Room.{room-few}
+use Rattle.ahead.specs.Ahead.{mostCalls}
+use Rattle.steps.specs.Steps.{Task, taskOf}
+use Rattle.steps.specs.Meets.{Ready, Fit}
 use Rattle.steps.specs.declared.step.Run.{Run}
-use Rattle.steps.proofs.Places.{FoundIn, program-on}
-use Rattle.interpreter.specs.declared.interpret.Answer.{Answer}
-use Rattle.interpreter.specs.declared.interpret.Answer.the-variants.{Alarm}
-use Rattle.runners.specs.declared.run.How.{How}
+use Rattle.ahead.proofs.Places.{FoundIn, program-on}
+use Rattle.answers.specs.declared.Answer.{Answer}
+use Rattle.answers.specs.declared.Answer.the-variants.{Alarm}
+use Rattle.runners.specs.declared.run.Ending.{Ending}
 use Rattle.runners.specs.declared.run.Outcome.{Outcome}
-use Rattle.runners.specs.Runs.{blocksInAll, recordsOf, programRun, RanMeets}
-use Rattle.interpreter.specs.Wrong.{settingsWrong, Right}
-use Rattle.interpreter.specs.Answers.{Result, refused, answerBy, resultOf, startOf, mainBy, mainRun, readThen, longestTape, whole, headed, laidBy}
+use Rattle.runners.specs.Runs.{blocksInAll, recordsOf, programRun}
+use Rattle.runners.specs.Meets.{Begins, RanMeets}
+use Rattle.settings.specs.Wrong.{settingsWrong}
+use Rattle.settings.specs.Known.{Right}
+use Rattle.interpreter.specs.Answers.{Result, refused, resultOf, mainBy, mainRun, readThen, longestTape, interpretation, laidBy}
+use Rattle.answers.specs.Answers.{answerBy, startOf, headed}
 use Rattle.runners.proofs.Going.{wrote-length}
 
 -- an answer and a buffer, as a result has them
@@ -44,11 +48,6 @@ gives-by b {a} {e} h g = subst (λ (z : Result). Gives z b a e) (sym h) g
 pub none-begun : (alarm place : ℕ) (b : List ℕ) → Gives (refused alarm place) b (Alarm alarm place 0) b
 unfolding laidBy recordsOf rowBytes
 none-begun alarm place b = (refl, sym (laid-nil b (recordStart 0)))
-
--- ---- the end of a run
-pub finished : {how h : How} (count : ℕ) {a : Answer} → how ≡ h → a ≡ answerBy h count → (b : List ℕ) {e : List ℕ} → e ≡ headed a b → (a ≡ answerBy how count) × (e ≡ headed (answerBy how count) b)
-finished count {a} p q b {e} k =
-    let is = q ∙ ap (λ (x : How). answerBy x count) (sym p) in (is, k ∙ ap (λ (x : Answer). headed x b) is)
 
 -- ---- the main program
 module _ (tape : List ℕ) (table : List ℤ) (set : Settings) (first : ℕ) (b : List ℕ) where
@@ -70,11 +69,11 @@ module _ (tape : List ℕ) (table : List ℤ) (set : Settings) (first : ℕ) (b 
     starts : {r : Run} → r ≡ startOf set → Fit t r
     starts e = subst (Fit t) (sym e) (record { sound = start-sound (set .x) (set .z) (right .starts .x) (right .starts .z); count = omega arith })
 
-    pub main-needs : {f : Found} → f ≡ findProgram (set .main) (lines tape first) → (p : ℕ) → f ≡ At p → {r : Run} → r ≡ startOf set
-        → Needs t (length b) p p r × (r .left ≤ blocksInAll)
-    main-needs e p h k =
+    pub main-begins : {f : Found} → f ≡ findProgram (set .main) (lines tape first) → (p : ℕ) → f ≡ At p → {r : Run} → r ≡ startOf set
+        → Begins t (length b) p r
+    main-begins e p h k =
         let l : p < length tape = subst (FoundIn (length tape)) (sym e ∙ h) (program-on (set .main) tape first) in
-        (record { ready = ready; fit = starts k; line = omega (arith, l); here = omega (arith, l) }, omega (arith, ap (λ (x : Run). x .left) k))
+        record { ready = ready; fit = starts k; line = omega (arith, l); few = omega (arith, ap (λ (x : Run). x .«blocks_left») k) }
 
     module _ (p : ℕ) {r : Run} (k : r ≡ startOf set) {o : Outcome} {e : List ℕ} (q : RanMeets t (programRun t p mostCalls r) b r o e) where
       -- the header and the count have their room
@@ -88,10 +87,10 @@ module _ (tape : List ℕ) (table : List ℤ) (set : Settings) (first : ℕ) (b 
       ran = subst (λ (s : Run). RanMeets t (programRun t p mostCalls s) b s o e) k q
 
       pub main-ran : {f : Found} → f ≡ findProgram (set .main) (lines tape first) → f ≡ At p → {a : Answer} {l : List ℕ}
-          → a ≡ answerBy (o .how) (o .run .count) → l ≡ headed (answerBy (o .how) (o .run .count)) e → Gives (mainRun t) b a l
+          → a ≡ answerBy (o .ending) (o .run .count) → l ≡ headed (answerBy (o .ending) (o .run .count)) e → Gives (mainRun t) b a l
       unfolding mainBy resultOf laidBy
       main-ran z h {a} {l} x y =
-          let same : answerBy (o .how) (o .run .count) ≡ resultOf (programRun t p mostCalls (startOf set)) .answer = ap (λ (w : Outcome). answerBy (w .how) (w .run .count)) (ran .outcome) in
+          let same : answerBy (o .ending) (o .run .count) ≡ resultOf (programRun t p mostCalls (startOf set)) .answer = ap (λ (w : Outcome). answerBy (w .ending) (w .run .count)) (ran .outcome) in
           gives-by b (main-is z h) (x ∙ same, y ∙ (λ i. headed (same i) (ran .took .buffer i)))
 
 -- ---- the tape as it was read
@@ -103,33 +102,33 @@ module _ (tape : List ℕ) (table : List ℤ) (set : Settings) (b : List ℕ) wh
   read-gives h g = gives-by b (read-is h) g
 
   -- ---- alarms 1, 2 and 3
-  is-wrong : settingsWrong table set ≡ true → whole tape table set (length b) ≡ refused badSettings 0
-  unfolding whole
+  is-wrong : settingsWrong table set ≡ true → interpretation tape table set (length b) ≡ refused badSettings 0
+  unfolding interpretation
   is-wrong e = rw e refl
 
-  pub wrong-settings : settingsWrong table set ≡ true → Gives (whole tape table set (length b)) b (Alarm badSettings 0 0) b
+  pub wrong-settings : settingsWrong table set ≡ true → Gives (interpretation tape table set (length b)) b (Alarm badSettings 0 0) b
   wrong-settings h = gives-by b (is-wrong h) (none-begun badSettings 0 b)
 
   module _ (h1 : settingsWrong table set ≡ false) where
-    is-long : longestTape < length tape → whole tape table set (length b) ≡ refused tapeTooLong 0
-    unfolding whole
+    is-long : longestTape < length tape → interpretation tape table set (length b) ≡ refused tapeTooLong 0
+    unfolding interpretation
     is-long h = rw (h1, lt-ltb longestTape (length tape) h) refl
 
-    pub long-tape : longestTape < length tape → Gives (whole tape table set (length b)) b (Alarm tapeTooLong 0 0) b
+    pub long-tape : longestTape < length tape → Gives (interpretation tape table set (length b)) b (Alarm tapeTooLong 0 0) b
     long-tape h = gives-by b (is-long h) (none-begun tapeTooLong 0 b)
 
     module _ (h2 : length tape ≤ longestTape) where
-      is-short : length b < headerSize → whole tape table set (length b) ≡ refused bufferTooShort 0
-      unfolding whole
+      is-short : length b < headerSize → interpretation tape table set (length b) ≡ refused bufferTooShort 0
+      unfolding interpretation
       is-short h = rw (h1, le-ltb longestTape (length tape) h2, lt-ltb (length b) headerSize h) refl
 
-      pub short-buffer : length b < headerSize → Gives (whole tape table set (length b)) b (Alarm bufferTooShort 0 0) b
+      pub short-buffer : length b < headerSize → Gives (interpretation tape table set (length b)) b (Alarm bufferTooShort 0 0) b
       short-buffer h = gives-by b (is-short h) (none-begun bufferTooShort 0 b)
 
-      is-read : headerSize ≤ length b → whole tape table set (length b) ≡ readThen tape table set (length b) (readOf tape)
-      unfolding whole
+      is-read : headerSize ≤ length b → interpretation tape table set (length b) ≡ readThen tape table set (length b) (readOf tape)
+      unfolding interpretation
       is-read h = rw (h1, le-ltb longestTape (length tape) h2, le-ltb (length b) headerSize h) refl
 
       pub goes-on : headerSize ≤ length b → {r : Read} → r ≡ readOf tape → {a : Answer} {e : List ℕ} → Gives (readThen tape table set (length b) r) b a e
-          → Gives (whole tape table set (length b)) b a e
+          → Gives (interpretation tape table set (length b)) b a e
       goes-on h k g = gives-by b (is-read h ∙ sym (read-is k)) g

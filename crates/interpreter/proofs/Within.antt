@@ -10,8 +10,8 @@ use lib.Seq.{length-take-le}
 use borrow.Author.Tests.{ltb-true}
 use Rattle.tape.specs.Lines.{seekFrom, opensTape, Text, LineIn, lineAt, textAt, linesUp, lines}
 use Rattle.tape.proofs.Lining.{line-in}
-use Rattle.tape.proofs.Within.{cond-ind}
-use Rattle.block.specs.Rules.{judged}
+use Rattle.numbers.proofs.Bounds.{cond-ind}
+use Rattle.rules.specs.Rules.{judged}
 use Rattle.reading.specs.Reading.{History, nothingRead, lineAlarm, noted, endsWith, readLines, readOf}
 use Rattle.reading.specs.declared.read.Read.{Read}
 use Rattle.reading.specs.declared.read.Read.the-variants.{Whole, Alarm}

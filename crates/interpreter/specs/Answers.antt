@@ -8,39 +8,23 @@ use lib.Dec.{ltb}
 use lib.IntN.{ℤ}
 use lib.ListN.{length, take}
 use Rattle.whole.specs.Bytes.{laid}
-use Rattle.alarms.specs.Numbers.{badSettings, tapeTooLong, bufferTooShort, programMissing, wrongEnd}
-use Rattle.moves.specs.Form.{headerSize, recordStart, headerBytes, rowBytes}
+use Rattle.alarms.specs.Numbers.{badSettings, tapeTooLong, bufferTooShort, programMissing}
+use Rattle.moves.specs.Form.{headerSize, recordStart, rowBytes}
 use Rattle.tape.specs.Lines.{lines}
-use Rattle.reading.specs.Finding.{findProgram}
+use Rattle.finding.specs.Finding.{findProgram}
 use Rattle.reading.specs.Reading.{readOf}
-use Rattle.reading.specs.declared.find.Found.{Found}
-use Rattle.reading.specs.declared.find.Found.the-variants.{At, Nowhere}
+use Rattle.finding.specs.declared.Found.{Found}
+use Rattle.finding.specs.declared.Found.the-variants.{At, Nowhere}
 use Rattle.reading.specs.declared.read.Read.{Read}
 use Rattle.reading.specs.declared.read.Read.the-variants as read
-use Rattle.state.specs.Modal.{atStart}
-use Rattle.machine.specs.declared.run.Settings.{Settings}
-use Rattle.steps.specs.Ahead.{mostCalls}
+use Rattle.settings.specs.declared.control.Settings.{Settings}
+use Rattle.ahead.specs.Ahead.{mostCalls}
 use Rattle.steps.specs.Steps.{Task, taskOf, Step}
-use Rattle.steps.specs.declared.step.Run.{Run}
-use Rattle.interpreter.specs.declared.interpret.Answer.{Answer}
-use Rattle.interpreter.specs.declared.interpret.Answer.the-variants.{Complete, Alarm}
-use Rattle.runners.specs.declared.run.How.{How}
-use Rattle.runners.specs.declared.run.How.the-variants.{Returned, Ended, Stopped}
-use Rattle.runners.specs.Runs.{blocksInAll, Ran, recordsOf, programRun}
-use Rattle.interpreter.specs.Wrong.{settingsWrong}
-
--- 01's values of an answer: the alarm's number, 0 where the list is complete; the place; the records written
-abbrev pub numberOf : Answer → ℕ
-numberOf (Complete count) = 0
-numberOf (Alarm alarm place count) = alarm
-
-abbrev pub placeOf : Answer → ℕ
-placeOf (Complete count) = 0
-placeOf (Alarm alarm place count) = place
-
-abbrev pub countOf : Answer → ℕ
-countOf (Complete count) = count
-countOf (Alarm alarm place count) = count
+use Rattle.answers.specs.declared.Answer.{Answer}
+use Rattle.answers.specs.declared.Answer.the-variants.{Alarm}
+use Rattle.answers.specs.Answers.{answerBy, startOf, headed}
+use Rattle.runners.specs.Runs.{Ran, recordsOf, programRun}
+use Rattle.settings.specs.Wrong.{settingsWrong}
 
 -- an answer, and the steps that were taken to it
 pub record Result : Type 0 where
@@ -51,18 +35,8 @@ pub record Result : Type 0 where
 abbrev pub refused : ℕ → ℕ → Result
 refused alarm place = record { answer = Alarm alarm place 0; steps = [] }
 
--- a run as an answer. (The main program does not return: M17 in it is alarm 14.)
-unfoldable pub answerBy : How → ℕ → Answer
-answerBy Ended count = Complete count
-answerBy (Stopped alarm place) count = Alarm alarm place count
-answerBy Returned count = Alarm wrongEnd 0 count
-
 unfoldable pub resultOf : Ran → Result
-resultOf x = record { answer = answerBy (x .outcome .how) (x .outcome .run .count); steps = x .steps }
-
--- "At the start: ..": all blocks are left, and no record is written
-abbrev pub startOf : Settings → Run
-startOf set = record { state = atStart (set .x) (set .z); left = blocksInAll; count = 0 }
+resultOf x = record { answer = answerBy (x .outcome .ending) (x .outcome .run .count); steps = x .steps }
 
 -- the run of the main program, which was looked for: "then 10 for the main"
 unfoldable pub mainBy : Task → Found → Result
@@ -87,23 +61,18 @@ abbrev pub longestTape : ℕ
 longestTape = 65_535
 
 -- THE WHOLE: tape, table, settings, and the length of the buffer
-unfoldable pub whole : List ℕ → List ℤ → Settings → ℕ → Result
-whole tape table set bytes =
+unfoldable pub interpretation : List ℕ → List ℤ → Settings → ℕ → Result
+interpretation tape table set bytes =
     cond (settingsWrong table set) (refused badSettings 0)
     (cond (ltb longestTape (length tape)) (refused tapeTooLong 0)
     (cond (ltb bytes headerSize) (refused bufferTooShort 0) (readThen tape table set bytes (readOf tape))))
 
 abbrev pub answerOf : List ℕ → List ℤ → Settings → ℕ → Answer
-answerOf tape table set bytes = whole tape table set bytes .answer
-
--- a buffer with the header of a complete list
-abbrev pub headed : Answer → List ℕ → List ℕ
-headed (Complete count) b = laid b 0 (headerBytes count)
-headed (Alarm alarm place count) b = b
+answerOf tape table set bytes = interpretation tape table set bytes .answer
 
 -- the buffer after it: the records of the steps behind the header's place, all other bytes as they came, and the header where the list is complete
 unfoldable pub laidBy : Result → List ℕ → List ℕ
 laidBy x b = headed (x .answer) (laid b (recordStart 0) (rowBytes (recordsOf (x .steps))))
 
 abbrev pub bufferOf : List ℕ → List ℤ → Settings → List ℕ → List ℕ
-bufferOf tape table set b = laidBy (whole tape table set (length b)) b
+bufferOf tape table set b = laidBy (interpretation tape table set (length b)) b

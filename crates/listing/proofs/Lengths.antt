@@ -8,8 +8,8 @@ use mir.Syntax.{w32}
 use mir.Val.{SFits}
 use Rattle.moves.specs.Form.{version, Fitting}
 use Rattle.moves.specs.declared.record.Record.{Record}
+use Rattle.decimal.proofs.Digits.{few-decimal, few-signed}
 use Rattle.listing.specs.Listing.{headLine, recordLine, alarmLine, longestHead, longestRecordLine, longestAlarm}
-use Rattle.listing.proofs.Digits.{few-decimal, few-signed}
 
 -- a signed number of 32 bits is no further from zero than this
 size-of : (z : ℤ) → SFits w32 z → natAbs z < 10 ^ 10

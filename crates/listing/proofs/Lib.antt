@@ -1,7 +1,4 @@
 -- The laws of this crate, for the crates built on it.
-pub mod Digits
-pub mod Writing
-pub mod Numbers
 pub mod Reading
 pub mod Lengths
 pub mod Made

@@ -10,14 +10,16 @@ use Rattle.whole.specs.Bytes.{laid}
 use Rattle.moves.specs.Form.{version, recordStart, roomOf, Fitting}
 use Rattle.moves.specs.Reading.{recordIn, recordsIn}
 use Rattle.moves.specs.declared.record.Record.{Record}
-use Rattle.tape.specs.Text.{bytes}
-use Rattle.interpreter.specs.declared.interpret.Answer.{Answer}
-use Rattle.interpreter.specs.declared.interpret.Answer.the-variants.{Complete, Alarm}
-use Rattle.listing.specs.Listing.{space, lineFeed, decimal, signed, line, headLine, recordLine, recordLines, alarmLine, listingOf, longestHead, longestRecordLine, longestAlarm, isMade, textOf}
-use Rattle.listing.specs.Wrote.{Wrote}
+use Rattle.letters.specs.Letters.{lf, space}
+use Rattle.letters.specs.Text.{bytes}
+use Rattle.answers.specs.declared.Answer.{Answer}
+use Rattle.answers.specs.declared.Answer.the-variants.{Complete, Alarm}
+use Rattle.decimal.specs.Decimal.{decimal, signed}
+use Rattle.decimal.specs.Wrote.{Wrote}
+use Rattle.decimal.proofs.Writing.{Going, begin, next, ended, nothing-wrote, wrote-as, behind, two-first, two-second, two}
+use Rattle.listing.specs.Listing.{line, headLine, recordLine, recordLines, alarmLine, listingOf, longestHead, longestRecordLine, longestAlarm, isMade, textOf}
 use Rattle.listing.proofs.Lengths.{short-head, short-line, short-alarm}
 use Rattle.listing.proofs.Reading.{part-is, lines-left, no-lines-left}
-use Rattle.listing.proofs.Writing.{Going, begin, next, ended, nothing-wrote, wrote-as, behind, two-first, two-second, two}
 
 -- ---- a word of a line, and the others behind it
 module _ (b : List ℕ) (at : ℕ) (w v : List ℕ) (vs : List (List ℕ)) (fits : at + length (line w (v ∷ vs)) ≤ length b) where
@@ -45,14 +47,14 @@ module _ (b : List ℕ) (count : ℕ) (small : count < 2 ^ 64) (room : longestHe
     version-room = word-room c m (decimal version) (decimal count) [] head-rest
 
     module _ {n : ℕ} {d : List ℕ} (two : Wrote c m (decimal version ++ (space ∷ [])) n d) where
-      pub count-room : n + length (decimal count ++ (lineFeed ∷ [])) ≤ length d
+      pub count-room : n + length (decimal count ++ (lf ∷ [])) ≤ length d
       count-room = word-rest c m (decimal version) (decimal count) [] head-rest two
 
-      made : {r : ℕ} {e : List ℕ} → Wrote d n (decimal count ++ (lineFeed ∷ [])) r e → Wrote b 0 (headLine count) r e
+      made : {r : ℕ} {e : List ℕ} → Wrote d n (decimal count ++ (lf ∷ [])) r e → Wrote b 0 (headLine count) r e
       unfolding headLine
       made k = word-on b 0 (bytes "TMV") (decimal version) (decimal count ∷ []) head-fits one (word-on c m (decimal version) (decimal count) [] head-rest two k)
 
-      pub head-made : {r : ℕ} {e : List ℕ} → Wrote d n (decimal count ++ (lineFeed ∷ [])) r e → Wrote b 0 (headLine count) r e × (r ≤ longestHead)
+      pub head-made : {r : ℕ} {e : List ℕ} → Wrote d n (decimal count ++ (lf ∷ [])) r e → Wrote b 0 (headLine count) r e × (r ≤ longestHead)
       head-made k = (made k, omega (arith, made k .place, short-head count small))
 
 -- ---- the line of an alarm
@@ -79,16 +81,16 @@ module _ (b : List ℕ) (alarm place count : ℕ) (small : (alarm < 2 ^ 8) × (p
       place-room = word-room d n (decimal place) (decimal count) [] place-rest
 
       module _ {o : ℕ} {l : List ℕ} (three : Wrote d n (decimal place ++ (space ∷ [])) o l) where
-        pub last-room : o + length (decimal count ++ (lineFeed ∷ [])) ≤ length l
+        pub last-room : o + length (decimal count ++ (lf ∷ [])) ≤ length l
         last-room = word-rest d n (decimal place) (decimal count) [] place-rest three
 
-        written : {r : ℕ} {e : List ℕ} → Wrote l o (decimal count ++ (lineFeed ∷ [])) r e → Wrote b 0 (alarmLine alarm place count) r e
+        written : {r : ℕ} {e : List ℕ} → Wrote l o (decimal count ++ (lf ∷ [])) r e → Wrote b 0 (alarmLine alarm place count) r e
         unfolding alarmLine
         written k =
             word-on b 0 (bytes "ALARM") (decimal alarm) (decimal place ∷ decimal count ∷ []) alarm-fits one
             (word-on c m (decimal alarm) (decimal place) (decimal count ∷ []) alarm-rest two (word-on d n (decimal place) (decimal count) [] place-rest three k))
 
-        pub alarm-made : (list : List ℕ) {r : ℕ} {e : List ℕ} → Wrote l o (decimal count ++ (lineFeed ∷ [])) r e
+        pub alarm-made : (list : List ℕ) {r : ℕ} {e : List ℕ} → Wrote l o (decimal count ++ (lf ∷ [])) r e
             → Wrote b 0 (textOf (Alarm alarm place count) list (length b)) r e × (r ≤ length b)
         unfolding textOf isMade listingOf
         alarm-made list {r} {e} k = (rw (le-leb longestAlarm (length b) room) (written k), omega (arith, written k .place, short))
@@ -146,17 +148,17 @@ module _ (b : List ℕ) (at : ℕ) (r : Record) (f : Fitting r) (room : at + lon
         z-room = word-room c3 m3 (zWord r) (valueWord r) [] rest3
 
         module _ {m4 : ℕ} {c4 : List ℕ} (w4 : Wrote c3 m3 (zWord r ++ (space ∷ [])) m4 c4) where
-          pub value-room : m4 + length (valueWord r ++ (lineFeed ∷ [])) ≤ length c4
+          pub value-room : m4 + length (valueWord r ++ (lf ∷ [])) ≤ length c4
           value-room = word-rest c3 m3 (zWord r) (valueWord r) [] rest3 w4
 
-          written-line : {n : ℕ} {e : List ℕ} → Wrote c4 m4 (valueWord r ++ (lineFeed ∷ [])) n e → Wrote b at (recordLine r) n e
+          written-line : {n : ℕ} {e : List ℕ} → Wrote c4 m4 (valueWord r ++ (lf ∷ [])) n e → Wrote b at (recordLine r) n e
           unfolding recordLine
           written-line k =
               word-on b at (kindWord r) (flagsWord r) (xWord r ∷ zWord r ∷ valueWord r ∷ []) line-fits w1
               (word-on c1 m1 (flagsWord r) (xWord r) (zWord r ∷ valueWord r ∷ []) rest1 w2
               (word-on c2 m2 (xWord r) (zWord r) (valueWord r ∷ []) rest2 w3 (word-on c3 m3 (zWord r) (valueWord r) [] rest3 w4 k)))
 
-          pub line-made : {n : ℕ} {e : List ℕ} → Wrote c4 m4 (valueWord r ++ (lineFeed ∷ [])) n e → Wrote b at (recordLine r) n e × (n ≤ at + longestRecordLine)
+          pub line-made : {n : ℕ} {e : List ℕ} → Wrote c4 m4 (valueWord r ++ (lf ∷ [])) n e → Wrote b at (recordLine r) n e × (n ≤ at + longestRecordLine)
           line-made k = (written-line k, omega (arith, written-line k .place, short-line r f))
 
 -- ---- the lines of the records, one after the other

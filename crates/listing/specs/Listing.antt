@@ -2,52 +2,21 @@
 -- Numbers are decimal. One space stands between two of them, and a line feed behind each line.
 use mathlib.Core.Bool.{Bool, cond, _&&_}
 use mathlib.Core.List.{List, [], _∷_, _++_}
-use Prim.Native.Nat.{ℕ, zero, suc, _+_, _*_, _/_, _%_}
+use Prim.Native.Nat.{ℕ, _+_, _*_}
 use lib.Dec.{leb}
-use lib.IntN.{ℤ, pos, negsuc}
 use lib.ListN.{length}
 use Rattle.moves.specs.Form.{version, roomOf}
 use Rattle.moves.specs.Reading.{recordsIn}
 use Rattle.moves.specs.declared.record.Record.{Record}
-use Rattle.tape.specs.Text.{bytes}
-use Rattle.interpreter.specs.declared.interpret.Answer.{Answer}
-use Rattle.interpreter.specs.declared.interpret.Answer.the-variants.{Complete, Alarm}
-
-abbrev pub lineFeed : ℕ
-lineFeed = 10
-
-abbrev pub space : ℕ
-space = 32
-
-abbrev pub minus : ℕ
-minus = 45
-
--- the byte of the digit 0; those of 1 to 9 follow it
-abbrev pub digitZero : ℕ
-digitZero = 48
-
--- the digits of a number, the highest first, where it has no more than k: those of its tens, and then the last one; 0 has none
-unfoldable pub digitsUp : ℕ → ℕ → List ℕ
-digitsUp zero n = []
-digitsUp (suc k) zero = []
-digitsUp (suc k) (suc n) = digitsUp k (suc n / 10) ++ ((digitZero + suc n % 10) ∷ [])
-
--- no number has more digits than ones
-unfoldable pub digits : ℕ → List ℕ
-digits n = digitsUp n n
-
--- a number with no zeros in front; 0 itself is the digit 0
-unfoldable pub decimal : ℕ → List ℕ
-decimal zero = digitZero ∷ []
-decimal (suc n) = digits (suc n)
-
-unfoldable pub signed : ℤ → List ℕ
-signed (pos n) = decimal n
-signed (negsuc n) = minus ∷ decimal (suc n)
+use Rattle.letters.specs.Letters.{lf, space}
+use Rattle.letters.specs.Text.{bytes}
+use Rattle.answers.specs.declared.Answer.{Answer}
+use Rattle.answers.specs.declared.Answer.the-variants.{Complete, Alarm}
+use Rattle.decimal.specs.Decimal.{decimal, signed}
 
 -- a line: a word and others behind it, with one space between two, and the line feed
 abbrev pub line : List ℕ → List (List ℕ) → List ℕ
-line w [] = w ++ (lineFeed ∷ [])
+line w [] = w ++ (lf ∷ [])
 line w (v ∷ vs) = (w ++ (space ∷ [])) ++ line v vs
 
 -- "mark, version and count"

@@ -1,9 +1,9 @@
 // The lines of a listing, and the listing as a whole: the head and a line for each record, or the one line of an alarm.
 // (01: "It prints mark, version and count, then kind, flags, X, Z and value for each record; on an alarm the word ALARM, number, place, count.")
-use crate::text::put_number;
-use crate::text::put_signed;
-use crate::text::put_text;
-use interpreter::interpret::Answer;
+use answers::Answer;
+use decimal::put_number;
+use decimal::put_signed;
+use decimal::put_text;
 use moves::record::Record;
 ghost use mathlib.Core.Path.{_≡_};
 ghost use Prim.Native.Nat.{_+_, _*_, _≤_};
@@ -11,9 +11,9 @@ ghost use lib.ListN.{length};
 ghost use Rattle.whole.specs.Bytes.{laid};
 ghost use Rattle.moves.specs.Form.{roomOf};
 ghost use Rattle.moves.specs.Reading.{recordsIn};
-ghost use Rattle.interpreter.specs.declared.interpret.Answer.the-variants.{Complete, Alarm};
+ghost use Rattle.answers.specs.declared.Answer.the-variants.{Complete, Alarm};
+ghost use Rattle.decimal.specs.Wrote.{Wrote};
 ghost use Rattle.listing.specs.Listing.{recordLine, recordLines, headLine, textOf, longestHead, longestRecordLine};
-ghost use Rattle.listing.specs.Wrote.{Wrote};
 
 // The most bytes of each line: a byte has 3 digits, 32 bits have 10 and a sign, a count or a place 20.
 pub const LONGEST_HEAD: usize = 27;

@@ -10,13 +10,15 @@ use lib.ListN.{length, length-replicate}
 use borrow.Author.Tests.{le-leb}
 use Rattle.whole.specs.Bytes.{laid}
 use Rattle.moves.specs.Form.{recordLimit, recordStart, roomOf}
-use Rattle.machine.specs.declared.run.Settings.{Settings}
-use Rattle.interpreter.specs.Answers.{countOf, answerOf, bufferOf}
-use Rattle.interpreter.specs.declared.interpret.Answer.{Answer}
-use Rattle.interpreter.specs.declared.interpret.Answer.the-variants.{Complete, Alarm}
+use Rattle.settings.specs.Listmoves.{listmoves, noOffsets}
+use Rattle.settings.specs.declared.control.Settings.{Settings}
+use Rattle.answers.specs.Answers.{countOf}
+use Rattle.interpreter.specs.Answers.{answerOf, bufferOf}
+use Rattle.answers.specs.declared.Answer.{Answer}
+use Rattle.answers.specs.declared.Answer.the-variants.{Complete, Alarm}
 use Rattle.demands.proofs.Holding.{demand-one}
 use Rattle.listing.specs.Listing.{longestHead, longestRecordLine, longestAlarm, isMade, listingOf, textOf}
-use Rattle.listmoves.specs.Printed.{settings, noOffsets, freshBuffer, printed, textSize}
+use Rattle.listmoves.specs.Printed.{freshBuffer, printed, textSize}
 
 fresh-size : length freshBuffer ≡ recordStart recordLimit
 unfolding freshBuffer
@@ -37,14 +39,14 @@ made-text : (a : Answer) (list : List ℕ) (room : ℕ) → isMade a (length lis
 unfolding textOf
 made-text a list room e = rw e refl
 
-module _ (tape : List ℕ) {table : List ℤ} {set : Settings} {buf : List ℕ} (zero : table ≡ noOffsets) (as-set : set ≡ settings) (fresh : buf ≡ freshBuffer) where
+module _ (tape : List ℕ) {table : List ℤ} {set : Settings} {buf : List ℕ} (zero : table ≡ noOffsets) (as-set : set ≡ listmoves) (fresh : buf ≡ freshBuffer) where
   is-printed : (room : ℕ) → textSize ≤ room → {answer : Answer} {after : List ℕ} → (answer ≡ answerOf tape table set (length buf)) × (after ≡ bufferOf tape table set buf)
       → textOf answer after room ≡ printed tape
   unfolding printed
   is-printed room h {answer} {after} ran =
-      let a = answerOf tape noOffsets settings (length freshBuffer) in
-      let e = bufferOf tape noOffsets settings freshBuffer in
-      let one = demand-one tape noOffsets settings freshBuffer in
+      let a = answerOf tape noOffsets listmoves (length freshBuffer) in
+      let e = bufferOf tape noOffsets listmoves freshBuffer in
+      let one = demand-one tape noOffsets listmoves freshBuffer in
       let made = all-made a (length e) room (one .told .count) (one .holds .size ∙ fresh-size) h in
       (λ i. textOf (ran .0 i) (ran .1 i) room)
       ∙ (λ i. textOf (answerOf tape (zero i) (as-set i) (length (fresh i))) (bufferOf tape (zero i) (as-set i) (fresh i)) room)

@@ -2,20 +2,11 @@
 -- start X 60000 Z 50000, limits -200000 to 200000, table zero."
 use mathlib.Core.List.{List}
 use Prim.Native.Nat.{ℕ, _+_, _*_}
-use lib.IntN.{ℤ}
 use lib.ListN.{length, replicate}
 use Rattle.moves.specs.Form.{recordLimit, recordStart}
-use Rattle.machine.specs.declared.run.Settings.{Settings}
 use Rattle.interpreter.specs.Answers.{answerOf, bufferOf}
-use Rattle.demands.specs.Table.{listmoves, zeros}
+use Rattle.settings.specs.Listmoves.{listmoves, noOffsets}
 use Rattle.listing.specs.Listing.{longestHead, longestRecordLine, listingOf}
-
--- they are those of the table of P1 to P10
-abbrev pub settings : Settings
-settings = listmoves
-
-abbrev pub noOffsets : List ℤ
-noOffsets = zeros
 
 -- the buffer that is lent: the header and as many records as a list may have, 64,008 bytes
 unfoldable pub freshBuffer : List ℕ
@@ -23,7 +14,7 @@ freshBuffer = replicate (recordStart recordLimit) 0
 
 -- the listing of what the interpreter answers and leaves in that buffer
 unfoldable pub printed : List ℕ → List ℕ
-printed tape = listingOf (answerOf tape noOffsets settings (length freshBuffer)) (bufferOf tape noOffsets settings freshBuffer)
+printed tape = listingOf (answerOf tape noOffsets listmoves (length freshBuffer)) (bufferOf tape noOffsets listmoves freshBuffer)
 
 -- room for every listing
 abbrev pub textSize : ℕ

@@ -1,15 +1,12 @@
 // The program `listmoves`: a tape from standard input is run, and its list of moves is written to standard output as text, or its alarm.
 // (01: "It prints mark, version and count, then kind, flags, X, Z and value for each record; on an alarm the word ALARM, number, place, count.")
-use cycles::limits::Limits;
-use cycles::limits::Span;
 use libc::STDIN_FILENO;
 use libc::STDOUT_FILENO;
-use machine::run::Settings;
 ghost use mathlib.Core.Path.{_≡_};
 ghost use Prim.Native.Nat.{_≤_};
 ghost use lib.ListN.{length};
 ghost use Rattle.whole.specs.Bytes.{laid};
-ghost use Rattle.listmoves.specs.Printed.{settings, noOffsets, freshBuffer, printed, textSize};
+ghost use Rattle.listmoves.specs.Printed.{freshBuffer, printed, textSize};
 
 // The buffer that is lent: the header and as many records as a list may have.
 const BUFFER: usize = moves::HEADER_SIZE + moves::RECORD_SIZE * moves::RECORD_LIMIT;
@@ -17,30 +14,6 @@ const BUFFER: usize = moves::HEADER_SIZE + moves::RECORD_SIZE * moves::RECORD_LI
 // The longest listing of so many.
 const TEXT: usize = listing::lines::LONGEST_HEAD
     + listing::lines::LONGEST_RECORD_LINE * moves::RECORD_LIMIT;
-
-// "with main 1, lowest subroutine 80, retract 500, start X 60000 Z 50000, limits -200000 to 200000, table zero"
-fn settings() -> Settings
-    ensures { λ r. ⌜ r ≡ settings ⌝ }
-{
-    let span = Span {
-        lowest: -200_000,
-        highest: 200_000,
-    };
-    Settings {
-        main: 1,
-        lowest: 80,
-        retract: 500,
-        x: 60_000,
-        z: 50_000,
-        limits: Limits { x: span, z: span },
-    }
-}
-
-fn no_offsets() -> [i32; 208]
-    ensures { λ r. ⌜ r ≡ noOffsets ⌝ }
-{
-    [0i32; 208]
-}
 
 fn fresh_buffer() -> [u8; BUFFER]
     ensures { λ r. ⌜ r ≡ freshBuffer ⌝ }
@@ -61,9 +34,10 @@ fn list_moves(tape: &[u8], out: &mut [u8]) -> usize
     ensures text { λ _. ⌜ now (out .exit) ≡ laid (now (out .entry)) 0 (printed (now (tape .entry))) ⌝ }
     ensures within { λ r. ⌜ r ≤ length (now (out .entry)) ⌝ }
 {
-    let table = no_offsets();
+    let table = settings::usual::no_offsets();
     let mut buf = fresh_buffer();
-    let answer = interpreter::interpret::interpret(tape, &table, settings(), &mut buf);
+    let set = settings::usual::of_listmoves();
+    let answer = interpreter::interpret::interpret(tape, &table, set, &mut buf);
     listing::lines::put_listing(answer, &buf, out)
 }
 

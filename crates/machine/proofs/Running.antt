@@ -1,81 +1,69 @@
 -- What one block does: a refused one leaves all as it was, one that is done has the room that it needs, and what is known between two blocks is known after it.
 -- Assumes nothing.
-use mathlib.Core.Path.{_≡_, refl, sym, _∙_, subst}
-use mathlib.Core.Bool.{Bool, true, false, _||_}
+use mathlib.Core.Path.{_≡_, refl, sym, ap, _∙_, subst}
+use mathlib.Core.Bool.{Bool, true, false, cond, not, _&&_, _||_}
 use mathlib.Core.List.{List}
 use Prim.Native.Nat.{ℕ, _+_, _-_, _≤_}
 use native.Mathlib.Omega.{arith}
 use lib.Dec.{T, eqb}
 use lib.IntN.{ℤ}
 use lib.ListN.{length}
-use borrow.Author.Tests.{eq-eqb, ne-eqb}
+use borrow.Author.Tests.{eq-eqb, ne-eqb, eqb-true, eqb-false}
 use Rattle.whole.specs.Bytes.{laid}
 use Rattle.whole.specs.Position.{inTable}
 use Rattle.whole.proofs.Integers.{whole, lt-false}
 use Rattle.whole.proofs.Laying.{laid-nil}
 use Rattle.whole.proofs.Positions.{in-range, in-table}
-use Rattle.moves.specs.Form.{headerSize, recordStart, recordLimit, roomOf, rowBytes}
+use Rattle.moves.specs.Form.{recordStart, rowBytes}
+use Rattle.moves.specs.declared.record.Record.{Record}
 use Rattle.block.specs.declared.words.Block.{Block}
-use Rattle.cycles.specs.Limits.{outside, outsideSpan}
-use Rattle.cycles.specs.declared.limits.Span.{Span}
-use Rattle.cycles.proofs.Reaching.{inside}
+use Rattle.settings.specs.Known.{SpanIn, InRange}
+use Rattle.settings.specs.Limits.{outside, outsideSpan}
+use Rattle.settings.specs.declared.control.Settings.{Settings}
+use Rattle.settings.specs.declared.limits.Span.{Span}
+use Rattle.axes.proofs.Reaching.{inside}
 use Rattle.state.specs.Modal.{settled}
-use Rattle.state.specs.Next.{nextOf}
-use Rattle.state.specs.Target.{Sound}
-use Rattle.state.specs.declared.modal.State.{State}
-use Rattle.state.specs.declared.next.Next.{Next}
-use Rattle.state.specs.declared.next.Next.the-variants.{Stop}
+use Rattle.state.specs.Known.{Sound}
 use Rattle.state.proofs.Ranges.{settled-sound}
-use Rattle.deeds.specs.Judge.{endsOutside}
+use Rattle.state.specs.declared.modal.State.{State}
+use Rattle.asking.specs.Judge.{asksOf}
 use Rattle.deeds.specs.declared.deed.Deed.{Deed}
 use Rattle.deeds.specs.declared.deed.Deed.the-variants as deed
-use Rattle.deeds.proofs.Judging.{Passed, passed}
-use Rattle.machine.specs.declared.run.Settings.{Settings}
-use Rattle.machine.specs.Known.{SpanIn, InRange}
-use Rattle.machine.specs.Writes.{moved, done, writes}
-use Rattle.machine.specs.Blocks.{deedIn, askedIn, alarmIn, doneRecords, doneState, recordsOf, didOf}
-use Rattle.machine.proofs.Chain.{writes-length}
+use Rattle.writing.specs.Writes.{moved, done, writes}
+use Rattle.verdicts.specs.Verdicts.{deedIn, asksIn, alarmIn, goingOf}
+use Rattle.verdicts.specs.declared.Going.{Going}
+use Rattle.verdicts.proofs.Passing.{all-passed, room-in}
+use Rattle.machine.specs.declared.BlockDone.{BlockDone}
+use Rattle.machine.specs.declared.BlockOutcome.the-variants.{Refused, Done}
+use Rattle.machine.specs.Blocks.{doneRecords, doneState, blockRecords, outcomeOf}
 
 neither : (a b : Bool) → a || b ≡ false → (a ≡ false) × (b ≡ false)
 neither true b e = absurd (subst T e tt)
 neither false b e = (refl, e)
 
-pub room-few : (bytes : ℕ) → roomOf bytes ≤ recordLimit
-unfolding roomOf
-room-few bytes = omega arith
-
--- so many records have room behind the header
-pub room-fits : (bytes k : ℕ) → headerSize ≤ bytes → k ≤ roomOf bytes → recordStart k ≤ bytes
-unfolding roomOf
-room-fits bytes k h l = omega (arith, h, l)
-
 module _ (table : List ℤ) (set : Settings) (s : State) (b : Block) where
   -- ---- a refused block
-  module _ (room k : ℕ) {a : ℕ} (is : a ≡ alarmIn table set s b (room - k)) (some : a ≡ 0 → ⊥) where
+  module _ (room k : ℕ) (some : alarmIn table set s b (room - k) ≡ 0 → ⊥) where
     is-refused : eqb (alarmIn table set s b (room - k)) 0 ≡ false
-    is-refused = ne-eqb (alarmIn table set s b (room - k)) 0 (λ e. some (is ∙ e))
+    is-refused = ne-eqb (alarmIn table set s b (room - k)) 0 some
 
-    pub refused : record { next = Stop a; state = s; count = k } ≡ didOf table set s b room k
-    unfolding didOf
-    refused = (λ i. record { next = Stop (is i); state = s; count = k }) ∙ rw is-refused refl
+    pub refused : {a : ℕ} → a ≡ alarmIn table set s b (room - k) → Refused a ≡ outcomeOf table set s b room k
+    unfolding outcomeOf
+    refused is = ap Refused is ∙ rw is-refused refl
 
-    pub nothing-written : (l : List ℕ) → l ≡ laid l (recordStart k) (rowBytes (recordsOf table set s b (room - k)))
-    unfolding recordsOf rowBytes
+    pub nothing-written : (l : List ℕ) → l ≡ laid l (recordStart k) (rowBytes (blockRecords table set s b (room - k)))
+    unfolding blockRecords rowBytes
     nothing-written l = sym (laid-nil l (recordStart k)) ∙ rw is-refused refl
 
   -- ---- a block that is done
   module _ (left : ℕ) (well : alarmIn table set s b left ≡ 0) where
-    pub all-passed : Passed (deedIn table set s b) (askedIn set s b left)
-    unfolding alarmIn
-    all-passed = passed (deedIn table set s b) (askedIn set s b left) well
-
     -- it has the room for its records
     pub done-few : length (doneRecords table set s b) ≤ left
-    unfolding doneRecords askedIn
-    done-few = omega (arith, writes-length (settled s b) b (deedIn table set s b) (all-passed .lengths), all-passed .room)
+    unfolding doneRecords
+    done-few = room-in table set s b left well
 
-    pub done-recorded : recordsOf table set s b left ≡ doneRecords table set s b
-    unfolding recordsOf
+    pub done-recorded : blockRecords table set s b left ≡ doneRecords table set s b
+    unfolding blockRecords
     done-recorded = rw (eq-eqb (alarmIn table set s b left) 0 well) refl
 
     -- what is known between two blocks is known after it
@@ -91,33 +79,64 @@ module _ (table : List ℤ) (set : Settings) (s : State) (b : Block) where
       unfolding outside moved
       sound-at u k due x z e =
           let n = neither (outsideSpan (set .limits .x) x) (outsideSpan (set .limits .z) z) e in
-          record { numbers = record { first = k .numbers .first; second = k .numbers .second; correction = k .numbers .correction }; x = in-span (set .limits .x) (r .x) x (n .0); z = in-span (set .limits .z) (r .z) z (n .1) }
+          record { numbers = record { «shift_group3» = k .numbers .«shift_group3»; «shift_group5» = k .numbers .«shift_group5»; correction = k .numbers .correction }; x = in-span (set .limits .x) (r .x) x (n .0); z = in-span (set .limits .z) (r .z) z (n .1) }
 
-      sound-done : (u : State) → Sound u → (d : Deed) → endsOutside d (set .limits) ≡ false → Sound (done u d)
-      unfolding done endsOutside
-      sound-done u k (deed.Rapid x z) e = sound-at u k false x z e
-      sound-done u k (deed.Feed x z) e = sound-at u k (u .due) x z e
-      sound-done u k (deed.Thread x z) e = sound-at u k (u .due) x z e
+      sound-done : (u : State) → Sound u → (d : Deed) → asksOf d (set .limits) .outside ≡ false → Sound (done u d)
+      unfolding done asksOf
       sound-done u k deed.Nothing e = k
       sound-done u k deed.Nowhere e = k
-      sound-done u k (deed.Dwell t) e = k
-      sound-done u k (deed.Turn c) e = k
-      sound-done u k (deed.Groove g) e = k
+      sound-done u k (deed.Dwell r) e = k
+      sound-done u k (deed.Straight m) e = sound-at u k (u .«rapid_due» && not (m .rapid)) (m .goes .x) (m .goes .z) e
+      sound-done u k (deed.Cycle c) e = k
 
       pub sound-after : Sound (doneState table set s b)
-      unfolding doneState askedIn
-      sound-after = sound-done (settled s b) (settled-sound s b h) (deedIn table set s b) (all-passed .inside)
+      unfolding doneState asksIn
+      sound-after = sound-done (settled s b) (settled-sound s b h) (deedIn table set s b) (all-passed table set s b left well .inside)
+
+  -- ---- of what the verdict gave
+  module _ {g : Going} (is : g ≡ goingOf table set s b) where
+    pub going-records : writes (g .settled) b (g .deed) ≡ doneRecords table set s b
+    unfolding goingOf doneRecords
+    going-records = λ i. writes (is i .settled) b (is i .deed)
+
+    pub going-state : done (g .settled) (g .deed) ≡ doneState table set s b
+    unfolding goingOf doneState
+    going-state = λ i. done (is i .settled) (is i .deed)
 
   -- what the code makes of it
   module _ (room k : ℕ) (well : alarmIn table set s b (room - k) ≡ 0) where
-    pub went-well : {n : Next} {t : State} {m : ℕ} → n ≡ nextOf b → t ≡ doneState table set s b → m ≡ k + length (doneRecords table set s b)
-        → record { next = n; state = t; count = m } ≡ didOf table set s b room k
-    unfolding didOf
-    went-well en et em = (λ i. record { next = en i; state = et i; count = em i }) ∙ rw (eq-eqb (alarmIn table set s b (room - k)) 0 well) refl
+    pub went-well : {t : State} {m : ℕ} → t ≡ doneState table set s b → m ≡ k + length (doneRecords table set s b)
+        → Done (record { state = t; count = m }) ≡ outcomeOf table set s b room k
+    unfolding outcomeOf
+    went-well et em = (λ i. Done (record { state = et i; count = em i })) ∙ rw (eq-eqb (alarmIn table set s b (room - k)) 0 well) refl
 
--- ---- of what the code has worked out
-pub writes-are : {t u : State} (b : Block) {d e : Deed} → t ≡ u → d ≡ e → writes t b d ≡ writes u b e
-writes-are b p q = λ i. writes (p i) b (q i)
+  -- ---- an outcome, read the other way
+  module _ (room k : ℕ) where
+    pub record WasRefused (a : ℕ) : Type 0 where
+      pub some : alarmIn table set s b (room - k) ≡ 0 → ⊥
+      pub is : a ≡ alarmIn table set s b (room - k)
 
-pub done-is : {t u : State} {d e : Deed} → t ≡ u → d ≡ e → done t d ≡ done u e
-done-is p q = λ i. done (p i) (q i)
+    pub was-refused : {a : ℕ} → outcomeOf table set s b room k ≡ Refused a → WasRefused a
+    unfolding outcomeOf
+    was-refused {a} e = go (eqb (alarmIn table set s b (room - k)) 0) refl e
+      where
+        go : (t : Bool) → eqb (alarmIn table set s b (room - k)) 0 ≡ t
+            → cond t (Done (record { state = doneState table set s b; count = k + length (doneRecords table set s b) })) (Refused (alarmIn table set s b (room - k))) ≡ Refused a → WasRefused a
+        go true h q = let z : _≡_ {A = ℕ} 0 1 = cc in absurd (omega arith)
+        go false h q = record { some = eqb-false (alarmIn table set s b (room - k)) 0 h; is = cc }
+
+    pub record WasDone (d : BlockDone) : Type 0 where
+      pub well : alarmIn table set s b (room - k) ≡ 0
+      pub state : d .state ≡ doneState table set s b
+      pub count : d .count ≡ k + length (doneRecords table set s b)
+
+    pub was-done : {d : BlockDone} → outcomeOf table set s b room k ≡ Done d → WasDone d
+    unfolding outcomeOf
+    was-done {d} e = go (eqb (alarmIn table set s b (room - k)) 0) refl e
+      where
+        go : (t : Bool) → eqb (alarmIn table set s b (room - k)) 0 ≡ t
+            → cond t (Done (record { state = doneState table set s b; count = k + length (doneRecords table set s b) })) (Refused (alarmIn table set s b (room - k))) ≡ Done d → WasDone d
+        go true h q =
+            let same : record { state = doneState table set s b; count = k + length (doneRecords table set s b) } ≡ d = cc in
+            record { well = eqb-true (alarmIn table set s b (room - k)) 0 h; state = sym (ap (λ (x : BlockDone). x .state) same); count = sym (ap (λ (x : BlockDone). x .count) same) }
+        go false h q = let z : _≡_ {A = ℕ} 0 1 = cc in absurd (omega arith)

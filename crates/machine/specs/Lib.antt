@@ -1,5 +1,2 @@
 -- The definitions that the contracts of this crate cite, and those of the crates built on it.
-pub mod Known
-pub mod Writes
 pub mod Blocks
-pub mod Opens

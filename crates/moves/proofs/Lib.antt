@@ -2,3 +2,4 @@
 pub mod Writing
 pub mod OneReading
 pub mod Rows
+pub mod Room

@@ -2,3 +2,4 @@
 pub mod Kinds
 pub mod Form
 pub mod Reading
+pub mod Last

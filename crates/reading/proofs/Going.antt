@@ -10,12 +10,12 @@ use lib.ListN.{length, getD, set, take, drop, replicate, length-set, length-repl
 use lib.Seq.{getD-set-same, getD-set-other}
 use borrow.Author.Tests.{eq-eqb, ne-eqb, lt-ltb, le-ltb, le-leb, lt-leb}
 use Rattle.alarms.specs.Numbers.{badLineStart, tooManyBlocks, wordRules}
-use Rattle.tape.specs.Letters.{among}
+use Rattle.whole.specs.Among.{among}
 use Rattle.tape.specs.Lines.{lineAt, lines}
 use Rattle.tape.specs.declared.line.Line.{Line}
 use Rattle.tape.proofs.Lining.{lines-more, lines-end}
-use Rattle.block.specs.Rules.{judged}
-use Rattle.block.specs.declared.rules.Judged.{Judged}
+use Rattle.rules.specs.Rules.{judged}
+use Rattle.rules.specs.declared.judge.Judged.{Judged}
 use Rattle.block.specs.declared.words.Head.{Head}
 use Rattle.block.specs.declared.words.Head.the-variants.{Blank, ProgramLine, BlockLine, Other}
 use Rattle.reading.specs.declared.read.Read.{Read}

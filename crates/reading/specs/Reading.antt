@@ -6,10 +6,11 @@ use Prim.Native.Nat.{ℕ}
 use lib.Dec.{leb, ltb, eqb}
 use lib.ListN.{length}
 use Rattle.alarms.specs.Numbers.{noProgram, badLineStart, tooManyBlocks, wordRules}
-use Rattle.tape.specs.Letters.{among}
+use Rattle.settings.specs.Wrong.{highestProgram}
+use Rattle.whole.specs.Among.{among}
 use Rattle.tape.specs.Lines.{seekFrom, opensTape, Text, lines}
-use Rattle.block.specs.Rules.{judged}
-use Rattle.block.specs.declared.rules.Judged.{Judged}
+use Rattle.rules.specs.Rules.{judged}
+use Rattle.rules.specs.declared.judge.Judged.{Judged}
 use Rattle.block.specs.declared.words.Head.{Head}
 use Rattle.block.specs.declared.words.Head.the-variants.{Blank, ProgramLine, BlockLine, Other}
 use Rattle.reading.specs.declared.read.Read.{Read}
@@ -23,10 +24,7 @@ pub record History : Type 0 where
 abbrev pub nothingRead : History
 nothingRead = record { programs = []; blocks = [] }
 
--- the highest program number, and how many blocks a program may have
-abbrev pub highestProgram : ℕ
-highestProgram = 6_999
-
+-- how many blocks a program may have
 abbrev pub mostBlocks : ℕ
 mostBlocks = 10_000
 

@@ -7,8 +7,6 @@ ghost use lib.ListN.{length};
 ghost use Rattle.tape.specs.Lines.{lines};
 ghost use Rattle.reading.specs.Reading.{nothingRead, readLines, readOf};
 
-pub const HIGHEST_PROGRAM: u32 = 6_999;
-
 pub const MOST_BLOCKS: usize = 10_000;
 
 // The place of the first line and the place behind the last line that is read; or an alarm and the first byte of its line (0 where there is no line).
@@ -41,7 +39,7 @@ fn read_lines(tape: &[u8], first: usize) -> Read
         let line = tape::line::line_at(tape, p);
         let stop = line.stop;
         let after = line.after;
-        let judged = block::rules::judge_line(&tape[p..stop]);
+        let judged = rules::judge::judge_line(&tape[p..stop]);
         let alarm = judged.alarm;
         if alarm != 0 {
             return Read::Alarm(alarm, p);
@@ -55,7 +53,7 @@ fn read_lines(tape: &[u8], first: usize) -> Read
                 return Read::Alarm(alarms::BAD_LINE_START, p);
             }
             Head::ProgramLine(n) => {
-                if n > HIGHEST_PROGRAM {
+                if n > settings::control::HIGHEST_PROGRAM {
                     return Read::Alarm(alarms::BAD_LINE_START, p);
                 }
                 let k = wide(n);

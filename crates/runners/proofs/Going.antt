@@ -18,18 +18,22 @@ use Rattle.moves.specs.declared.record.Record.{Record}
 use Rattle.moves.proofs.OneReading.{length-row}
 use Rattle.moves.proofs.Rows.{row-on}
 use Rattle.tape.specs.Lines.{lineAt}
-use Rattle.machine.specs.declared.run.Settings.{Settings}
-use Rattle.machine.proofs.Running.{room-fits}
-use Rattle.steps.specs.Steps.{Task, taskOf, Step, Taken, takenFrom, Ready, Fit, Needs, Goes, Wrote, StepMeets}
-use Rattle.steps.specs.declared.ahead.What.{What}
-use Rattle.steps.specs.declared.ahead.What.the-variants.{On, Call, Jump, Return, End, Stop}
-use Rattle.steps.specs.declared.step.Did.{Did}
+use Rattle.settings.specs.declared.control.Settings.{Settings}
+use Rattle.moves.proofs.Room.{room-fits}
+use Rattle.ahead.specs.Ahead.{onto}
+use Rattle.steps.specs.Steps.{Task, taskOf, Step, Taken, takenFrom}
+use Rattle.steps.specs.Meets.{Ready, Fit, Needs, Goes, Wrote, StepMeets}
+use Rattle.ahead.specs.declared.Frame.{Frame}
+use Rattle.ahead.specs.declared.Onward.{Onward}
+use Rattle.ahead.specs.declared.Onward.the-variants.{On, Call, Jump, Return, End, Stop}
+use Rattle.steps.specs.declared.step.StepDone.{StepDone}
 use Rattle.steps.specs.declared.step.Run.{Run}
-use Rattle.runners.specs.declared.run.How.{How}
-use Rattle.runners.specs.declared.run.How.the-variants.{Returned, Ended, Stopped}
+use Rattle.runners.specs.declared.run.Ending.{Ending}
+use Rattle.runners.specs.declared.run.Ending.the-variants.{Returned, Ended, Stopped}
 use Rattle.runners.specs.declared.run.Outcome.{Outcome}
-use Rattle.runners.specs.Runs.{Ran, ran, recordsOf, pre, goBack, andThen, goOn, onward, blocks, blocksInAll, enough as spare, repeated, called, programRun, Took, RanMeets}
-use Rattle.runners.proofs.run.How.{the-type}
+use Rattle.runners.specs.Runs.{Ran, ran, recordsOf, pre, goBack, andThen, goOn, onward, blocks, blocksInAll, enough as spare, repeated, called, entry, programRun}
+use Rattle.runners.specs.Meets.{Begins, Took, RanMeets}
+use Rattle.runners.proofs.run.Ending.{the-type}
 
 -- ---- written
 pub took-nil : (t : Task) (b : List ℕ) (r : Run) → Fit t r → Took t b r [] b r
@@ -55,36 +59,39 @@ pub pre-pre : (v w : List Step) (x : Ran) → pre v (pre w x) ≡ pre (v ++ w) x
 unfolding pre
 pre-pre v w x = ap (λ (l : List Step). record { outcome = x .outcome; steps = l }) (sym (append-assoc v w (x .steps)))
 
-then-is : (x : Ran) (k : Run → Ran) {o : Outcome} {h : How} → o ≡ x .outcome → o .how ≡ h → andThen x k ≡ goBack h x k
+then-is : (x : Ran) (k : Run → Ran) {o : Outcome} {h : Ending} → o ≡ x .outcome → o .ending ≡ h → andThen x k ≡ goBack h x k
 unfolding andThen
-then-is x k p e = ap (λ (y : Outcome). goBack (y .how) x k) (sym p) ∙ ap (λ (y : How). goBack y x k) e
+then-is x k p e = ap (λ (y : Outcome). goBack (y .ending) x k) (sym p) ∙ ap (λ (y : Ending). goBack y x k) e
 
-onward-is : (call : ℕ → ℕ → Run → Ran) (k : ℕ → Run → Ran) (x : Taken) {d : Did} {w : What} → d ≡ x .did → d .what ≡ w
+onward-is : (call : ℕ → ℕ → Run → Ran) (k : ℕ → Run → Ran) (x : Taken) {d : StepDone} {w : Onward} → d ≡ x .done → d .onward ≡ w
     → onward call k x ≡ goOn call k w (d .run) (d .after) (x .step)
 unfolding onward
 onward-is call k x {d} p e =
-    ap (λ (y : Did). goOn call k (y .what) (y .run) (y .after) (x .step)) (sym p) ∙ ap (λ (v : What). goOn call k v (d .run) (d .after) (x .step)) e
+    ap (λ (y : StepDone). goOn call k (y .onward) (y .run) (y .after) (x .step)) (sym p) ∙ ap (λ (v : Onward). goOn call k v (d .run) (d .after) (x .step)) e
 
 -- a run that did not return, as the `_` of a `match` has it: its tag is one of the others
-not-returned : (h : How) (x : Ran) (k : Run → Ran) → OneOf (1 ∷ 2 ∷ []) (tagOf the-type h) → goBack h x k ≡ x
+not-returned : (h : Ending) (x : Ran) (k : Run → Ran) → OneOf (1 ∷ 2 ∷ []) (tagOf the-type h) → goBack h x k ≡ x
 unfolding goBack
 not-returned Returned x k t = absurd (⊎-elim (λ e. omega arith) (λ e. omega arith) t)
 not-returned Ended x k t = refl
 not-returned (Stopped alarm place) x k t = refl
 
 -- one step of a program, at any fuel
-blocks-suc : (call : ℕ → ℕ → Run → Ran) (t : Task) (program calls f at : ℕ) (r : Run)
-    → blocks call t program calls (suc f) at r ≡ onward call (λ p s. blocks call t program calls f p s) (takenFrom t program calls at r)
+blocks-suc : (call : ℕ → ℕ → Run → Ran) (t : Task) (n : ℕ) (f : Frame) (r : Run) → blocks call t (suc n) f r ≡ onward call (λ p s. blocks call t n (onto f p) s) (takenFrom t f r)
 unfolding blocks
-blocks-suc call t program calls f at r = refl
+blocks-suc call t n f r = refl
+
+-- a frame of its parts
+abbrev pub on : ℕ → ℕ → ℕ → Frame
+on program calls at = record { program = program; «calls_left» = calls; at = at }
 
 -- A PROGRAM'S LOOP: from the buffer b₀ and the run r₀ it came to b and r, and what is left to run is the program from `at` on
 pub record Going (t : Task) (program calls : ℕ) (b₀ : List ℕ) (r₀ : Run) (b : List ℕ) (r : Run) (at : ℕ) : Type 0 where
   pub fuel : ℕ
   pub done : List Step
-  pub same : programRun t program calls r₀ ≡ pre done (blocks (called t calls) t program calls (suc fuel) at r)
+  pub same : programRun t program calls r₀ ≡ pre done (blocks (called t calls) t (suc fuel) (on program calls at) r)
   pub took : Took t b₀ r₀ done b r
-  pub enough : r .left ≤ fuel
+  pub enough : r .«blocks_left» ≤ fuel
   pub size : length b ≡ length b₀
   pub here : at ≤ length (t .tape)
 
@@ -129,12 +136,12 @@ module _ (tape : List ℕ) (table : List ℤ) (set : Settings) (first : ℕ) (b�
       subst (λ (z : Ran). RanMeets t z b r o e) (sym h) (record { outcome = k .outcome; took = took-trans w (x .steps) same p (k .took) })
 
   -- a run that is stopped before it begins
-  pub nothing : {x : Ran} {h : How} {b : List ℕ} {r : Run} → x ≡ ran h r [] → Fit t r → RanMeets t x b r (record { how = h; run = r }) b
+  pub nothing : {x : Ran} {h : Ending} {b : List ℕ} {r : Run} → x ≡ ran h r [] → Fit t r → RanMeets t x b r (record { ending = h; run = r }) b
   nothing {x} {h} {b} {r} e f =
-      subst (λ (z : Ran). RanMeets t z b r (record { how = h; run = r }) b) (sym e) (record { outcome = refl; took = took-nil t b r f })
+      subst (λ (z : Ran). RanMeets t z b r (record { ending = h; run = r }) b) (sym e) (record { outcome = refl; took = took-nil t b r f })
 
   module _ (program calls : ℕ) (r₀ : Run) where
-    pub start : Fit t r₀ → r₀ .left ≤ blocksInAll → lineAt tape program .after ≤ length tape → Going t program calls b₀ r₀ b₀ r₀ (lineAt tape program .after)
+    pub start : Fit t r₀ → r₀ .«blocks_left» ≤ blocksInAll → lineAt tape program .after ≤ length tape → Going t program calls b₀ r₀ b₀ r₀ (lineAt tape program .after)
     unfolding spare
     start f few here = record {
       fuel = 20_000;
@@ -146,23 +153,23 @@ module _ (tape : List ℕ) (table : List ℤ) (set : Settings) (first : ℕ) (b�
       here = here;
     }
 
-    pub start-at : Fit t r₀ → r₀ .left ≤ blocksInAll → {at : ℕ} → at ≡ lineAt tape program .after → at ≤ length tape → Going t program calls b₀ r₀ b₀ r₀ at
+    pub start-at : Fit t r₀ → r₀ .«blocks_left» ≤ blocksInAll → {at : ℕ} → at ≡ lineAt tape program .after → at ≤ length tape → Going t program calls b₀ r₀ b₀ r₀ at
     start-at f few {at} e h =
         subst (Going t program calls b₀ r₀ b₀ r₀) (sym e) (start f few (subst (λ (p : ℕ). p ≤ length tape) e h))
 
     -- what a step asks for
     pub step-needs : {b : List ℕ} {r : Run} {at : ℕ} → Going t program calls b₀ r₀ b r at → program ≤ length tape → Ready t (length b₀)
-        → Needs (taskOf tape table set first (length b)) (length b) program at r
+        → Needs (taskOf tape table set first (length b)) (length b) (on program calls at) r
     step-needs {b} {r} {at} g p k =
-        subst (λ (n : ℕ). Needs (taskOf tape table set first n) n program at r) (sym (g .size)) (record { ready = k; fit = g .took .fit; line = p; here = g .here })
+        subst (λ (n : ℕ). Needs (taskOf tape table set first n) n (on program calls at) r) (sym (g .size)) (record { ready = k; fit = g .took .fit; line = p; here = g .here })
 
     -- the program at a fuel, a place and a run
     abbrev rest : ℕ → ℕ → Run → Ran
-    rest f at r = blocks (called t calls) t program calls f at r
+    rest f at r = blocks (called t calls) t f (on program calls at) r
 
     -- a turn that took the steps v
     turn : (f : ℕ) (w v : List Step) {b e : List ℕ} {r s : Run} (to : ℕ) → programRun t program calls r₀ ≡ pre w (pre v (rest f to s))
-        → Took t b₀ r₀ w b r → length b ≡ length b₀ → Took t b r v e s → s .left < f → to ≤ length tape → Going t program calls b₀ r₀ e s to
+        → Took t b₀ r₀ w b r → length b ≡ length b₀ → Took t b r v e s → s .«blocks_left» < f → to ≤ length tape → Going t program calls b₀ r₀ e s to
     turn zero w v to h p l q enough here = absurd (omega arith)
     turn (suc f) w v {s = s} to h p l q enough here = record {
       fuel = f;
@@ -174,13 +181,13 @@ module _ (tape : List ℕ) (table : List ℤ) (set : Settings) (first : ℕ) (b�
       here = here;
     }
 
-    module _ {b : List ℕ} {r : Run} {at : ℕ} (g : Going t program calls b₀ r₀ b r at) {d : Did} {e : List ℕ} (m₀ : StepMeets (taskOf tape table set first (length b)) b program calls at r d e) where
+    module _ {b : List ℕ} {r : Run} {at : ℕ} (g : Going t program calls b₀ r₀ b r at) {d : StepDone} {e : List ℕ} (m₀ : StepMeets (taskOf tape table set first (length b)) b (on program calls at) r d e) where
       -- the step, in the task of the whole run
-      m : StepMeets t b program calls at r d e
-      m = subst (λ (n : ℕ). StepMeets (taskOf tape table set first n) b program calls at r d e) (g .size) m₀
+      m : StepMeets t b (on program calls at) r d e
+      m = subst (λ (n : ℕ). StepMeets (taskOf tape table set first n) b (on program calls at) r d e) (g .size) m₀
 
       abbrev taken : Taken
-      taken = takenFrom t program calls at r
+      taken = takenFrom t (on program calls at) r
 
       abbrev here : Step
       here = taken .step
@@ -192,57 +199,58 @@ module _ (tape : List ℕ) (table : List ℤ) (set : Settings) (first : ℕ) (b�
       size-after = wrote-length (g .size) (here .records) (m .wrote)
 
       -- what is left, by its next step, which asks w of the runner
-      unrolled : {w : What} → d .what ≡ w → programRun t program calls r₀ ≡ pre (g .done) (goOn (called t calls) (rest (g .fuel)) w (d .run) (d .after) here)
+      unrolled : {w : Onward} → d .onward ≡ w → programRun t program calls r₀ ≡ pre (g .done) (goOn (called t calls) (rest (g .fuel)) w (d .run) (d .after) here)
       unrolled h =
           g .same
-          ∙ ap (pre (g .done)) (blocks-suc (called t calls) t program calls (g .fuel) at r ∙ onward-is (called t calls) (rest (g .fuel)) taken (m .did) h)
+          ∙ ap (pre (g .done)) (blocks-suc (called t calls) t (g .fuel) (on program calls at) r ∙ onward-is (called t calls) (rest (g .fuel)) taken (m .done) h)
 
-      goes : {w : What} → d .what ≡ w → Goes t r (d .run) (here .records) w
+      goes : {w : Onward} → d .onward ≡ w → Goes t r (d .run) (here .records) w
       goes h = subst (Goes t r (d .run) (here .records)) h (m .goes)
 
       -- on to the next line
-      pub less-on : d .what ≡ On → d .run .left < r .left
+      pub less-on : d .onward ≡ On → d .run .«blocks_left» < r .«blocks_left»
       less-on h = goes h
 
-      pub next : d .what ≡ On → Going t program calls b₀ r₀ e (d .run) (d .after)
+      pub next : d .onward ≡ On → Going t program calls b₀ r₀ e (d .run) (d .after)
       unfolding goOn
       next h = turn (g .fuel) (g .done) (here ∷ []) (d .after) (unrolled h) (g .took) (g .size) took (omega (arith, less-on h, g .enough)) (m .after)
 
       -- a jump
-      pub less-jump : (p : ℕ) → d .what ≡ Jump p → d .run .left < r .left
+      pub less-jump : (p : ℕ) → d .onward ≡ Jump p → d .run .«blocks_left» < r .«blocks_left»
       less-jump p h = goes h .0
 
-      pub jump : (p : ℕ) → d .what ≡ Jump p → Going t program calls b₀ r₀ e (d .run) p
+      pub jump : (p : ℕ) → d .onward ≡ Jump p → Going t program calls b₀ r₀ e (d .run) p
       unfolding goOn
       jump p h = turn (g .fuel) (g .done) (here ∷ []) p (unrolled h) (g .took) (g .size) took (omega (arith, less-jump p h, g .enough)) (goes h .1)
 
       -- an end that the block asks for, with the steps l
-      ends : {w : What} {h : How} (l : List Step) → d .what ≡ w → goOn (called t calls) (rest (g .fuel)) w (d .run) (d .after) here ≡ ran h (d .run) l
-          → Took t b r l e (d .run) → RanMeets t (programRun t program calls r₀) b₀ r₀ (record { how = h; run = d .run }) e
+      ends : {w : Onward} {h : Ending} (l : List Step) → d .onward ≡ w → goOn (called t calls) (rest (g .fuel)) w (d .run) (d .after) here ≡ ran h (d .run) l
+          → Took t b r l e (d .run) → RanMeets t (programRun t program calls r₀) b₀ r₀ (record { ending = h; run = d .run }) e
       ends {h = h} l p q k =
           after (g .done) refl (unrolled p ∙ ap (pre (g .done)) q) (g .took) (record { outcome = refl; took = k })
 
-      pub returns : d .what ≡ Return → RanMeets t (programRun t program calls r₀) b₀ r₀ (record { how = Returned; run = d .run }) e
+      pub returns : d .onward ≡ Return → RanMeets t (programRun t program calls r₀) b₀ r₀ (record { ending = Returned; run = d .run }) e
       unfolding goOn
       returns p = ends (here ∷ []) p refl took
 
-      pub ended : d .what ≡ End → RanMeets t (programRun t program calls r₀) b₀ r₀ (record { how = Ended; run = d .run }) e
+      pub ended : d .onward ≡ End → RanMeets t (programRun t program calls r₀) b₀ r₀ (record { ending = Ended; run = d .run }) e
       unfolding goOn
       ended p = ends (here ∷ []) p refl took
 
       -- a refused block has written nothing
-      pub stops : (alarm place : ℕ) → d .what ≡ Stop alarm place → RanMeets t (programRun t program calls r₀) b₀ r₀ (record { how = Stopped alarm place; run = d .run }) e
+      pub stops : (alarm place : ℕ) → d .onward ≡ Stop alarm place → RanMeets t (programRun t program calls r₀) b₀ r₀ (record { ending = Stopped alarm place; run = d .run }) e
       unfolding goOn recordsOf
       stops alarm place p = ends [] p refl (subst (λ (l : List Record). Wrote t b r l e (d .run)) (goes p) (m .wrote))
 
       -- a call
-      module _ (p times : ℕ) (h : d .what ≡ Call p times) where
-        pub less-call : d .run .left < r .left
+      module _ (p times : ℕ) (h : d .onward ≡ Call p times) where
+        pub less-call : d .run .«blocks_left» < r .«blocks_left»
         less-call = goes h .0
 
-        pub call-needs : Ready t (length b₀) → Needs (taskOf tape table set first (length e)) (length e) p p (d .run)
-        call-needs k = subst (λ (n : ℕ). Needs (taskOf tape table set first n) n p p (d .run)) (sym size-after)
-            (record { ready = k; fit = m .wrote .fit; line = goes h .1; here = goes h .1 })
+        pub call-begins : Ready t (length b₀) → r₀ .«blocks_left» ≤ blocksInAll → Begins (taskOf tape table set first (length e)) (length e) p (d .run)
+        call-begins k few =
+            subst (λ (n : ℕ). Begins (taskOf tape table set first n) n p (d .run)) (sym size-after)
+            (record { ready = k; fit = m .wrote .fit; line = goes h .1; few = omega (arith, less-call, g .took .left, few) })
 
         module _ {o : Outcome} {u : List ℕ} (q₀ : RanMeets (taskOf tape table set first (length e)) (called (taskOf tape table set first (length e)) calls p times (d .run)) e (d .run) o u) where
           q : RanMeets t (called t calls p times (d .run)) e (d .run) o u
@@ -251,7 +259,7 @@ module _ (tape : List ℕ) (table : List ℤ) (set : Settings) (first : ℕ) (b�
           abbrev run : Ran
           run = called t calls p times (d .run)
 
-          been : {w : How} → o .how ≡ w → programRun t program calls r₀ ≡ pre (g .done ++ (here ∷ [])) (goBack w run (rest (g .fuel) (d .after)))
+          been : {w : Ending} → o .ending ≡ w → programRun t program calls r₀ ≡ pre (g .done ++ (here ∷ [])) (goBack w run (rest (g .fuel) (d .after)))
           unfolding goOn
           been k =
               unrolled h ∙ pre-pre (g .done) (here ∷ []) (andThen run (rest (g .fuel) (d .after)))
@@ -263,19 +271,19 @@ module _ (tape : List ℕ) (table : List ℤ) (set : Settings) (first : ℕ) (b�
           pub call-size : length u ≡ length b₀
           call-size = wrote-length size-after (recordsOf (run .steps)) (q .took)
 
-          pub call-left : o .run .left < r .left
+          pub call-left : o .run .«blocks_left» < r .«blocks_left»
           call-left = omega (arith, less-call, q .took .left)
 
-          pub call-returned : o .how ≡ Returned → Going t program calls b₀ r₀ u (o .run) (d .after)
+          pub call-returned : o .ending ≡ Returned → Going t program calls b₀ r₀ u (o .run) (d .after)
           unfolding goBack
           call-returned k =
               turn (g .fuel) (g .done ++ (here ∷ [])) (run .steps) (d .after)
               (been k ∙ ap (λ (x : Outcome). pre (g .done ++ (here ∷ [])) (pre (run .steps) (rest (g .fuel) (d .after) (x .run)))) (sym (q .outcome)))
               so-far size-after (q .took) (omega (arith, call-left, g .enough)) (m .after)
 
-          pub call-broke : OneOf (1 ∷ 2 ∷ []) (tagOf the-type (o .how)) → RanMeets t (programRun t program calls r₀) b₀ r₀ o u
+          pub call-broke : OneOf (1 ∷ 2 ∷ []) (tagOf the-type (o .ending)) → RanMeets t (programRun t program calls r₀) b₀ r₀ o u
           call-broke k =
-              after (g .done ++ (here ∷ [])) refl (been refl ∙ ap (pre (g .done ++ (here ∷ []))) (not-returned (o .how) run (rest (g .fuel) (d .after)) k)) so-far q
+              after (g .done ++ (here ∷ [])) refl (been refl ∙ ap (pre (g .done ++ (here ∷ []))) (not-returned (o .ending) run (rest (g .fuel) (d .after)) k)) so-far q
 
   -- ---- a call
   module _ (program calls times : ℕ) (r₀ : Run) where
@@ -303,25 +311,27 @@ module _ (tape : List ℕ) (table : List ℤ) (set : Settings) (first : ℕ) (b�
     repeated-some (suc n) r h = rw (sub-one (suc n))
 
     -- all runs are done
-    pub all : {b : List ℕ} {r : Run} {n : ℕ} → Repeating t program calls times b₀ r₀ b r n → n ≡ 0 → RanMeets t (called t calls program times r₀) b₀ r₀ (record { how = Returned; run = r }) b
+    pub all : {b : List ℕ} {r : Run} {n : ℕ} → Repeating t program calls times b₀ r₀ b r n → n ≡ 0 → RanMeets t (called t calls program times r₀) b₀ r₀ (record { ending = Returned; run = r }) b
     unfolding repeated
     all {b} {r} g h = after (g .done) refl (g .same ∙ ap (λ (m : ℕ). pre (g .done) (repeated body m r)) h) (g .took) (nothing refl (g .took .fit))
 
     module _ {b : List ℕ} {r : Run} {n : ℕ} (g : Repeating t program calls times b₀ r₀ b r n) (some : 0 < n) where
-      pub run-needs : program ≤ length tape → Ready t (length b₀) → Needs (taskOf tape table set first (length b)) (length b) program program r
-      run-needs p k = subst (λ (m : ℕ). Needs (taskOf tape table set first m) m program program r) (sym (g .size)) (record { ready = k; fit = g .took .fit; line = p; here = p })
+      pub run-begins : program ≤ length tape → Ready t (length b₀) → r₀ .«blocks_left» ≤ blocksInAll → Begins (taskOf tape table set first (length b)) (length b) program r
+      run-begins p k few =
+          subst (λ (m : ℕ). Begins (taskOf tape table set first m) m program r) (sym (g .size))
+          (record { ready = k; fit = g .took .fit; line = p; few = omega (arith, g .took .left, few) })
 
       module _ {o : Outcome} {u : List ℕ} (q₀ : RanMeets (taskOf tape table set first (length b)) (programRun (taskOf tape table set first (length b)) program (calls - 1) r) b r o u) where
         back : RanMeets t (body r) b r o u
         back = subst (λ (m : ℕ). RanMeets (taskOf tape table set first m) (programRun (taskOf tape table set first m) program (calls - 1) r) b r o u) (g .size) q₀
 
-        once : {w : How} → o .how ≡ w → called t calls program times r₀ ≡ pre (g .done) (goBack w (body r) (repeated body (n - 1)))
+        once : {w : Ending} → o .ending ≡ w → called t calls program times r₀ ≡ pre (g .done) (goBack w (body r) (repeated body (n - 1)))
         once k = g .same ∙ ap (pre (g .done)) (repeated-some n r some ∙ then-is (body r) (repeated body (n - 1)) (back .outcome) k)
 
         pub size-once : length u ≡ length b₀
         size-once = wrote-length (g .size) (recordsOf (body r .steps)) (back .took)
 
-        pub again : o .how ≡ Returned → Repeating t program calls times b₀ r₀ u (o .run) (n - 1)
+        pub again : o .ending ≡ Returned → Repeating t program calls times b₀ r₀ u (o .run) (n - 1)
         unfolding goBack
         again k = record {
           done = g .done ++ body r .steps;
@@ -331,5 +341,5 @@ module _ (tape : List ℕ) (table : List ℤ) (set : Settings) (first : ℕ) (b�
           size = size-once;
         }
 
-        pub broke : OneOf (1 ∷ 2 ∷ []) (tagOf the-type (o .how)) → RanMeets t (called t calls program times r₀) b₀ r₀ o u
-        broke k = after (g .done) refl (once refl ∙ ap (pre (g .done)) (not-returned (o .how) (body r) (repeated body (n - 1)) k)) (g .took) back
+        pub broke : OneOf (1 ∷ 2 ∷ []) (tagOf the-type (o .ending)) → RanMeets t (called t calls program times r₀) b₀ r₀ o u
+        broke k = after (g .done) refl (once refl ∙ ap (pre (g .done)) (not-returned (o .ending) (body r) (repeated body (n - 1)) k)) (g .took) back

@@ -1,23 +1,23 @@
 // The two runners. (01: "Running a program runs its blocks, and a call block runs a program again".) They call each other; a loop inside goes along the blocks, so that the real
 // stack is never deeper than the calls of the program are.
-use machine::run::Settings;
-use steps::ahead::What;
+use ahead::Frame;
+use ahead::Onward;
+use settings::control::Settings;
 use steps::step::Run;
 ghost use mathlib.Core.Path.{_≡_};
-ghost use Prim.Native.Nat.{_≤_, _<_};
 ghost use lib.ListN.{length};
-ghost use Rattle.steps.specs.Steps.{taskOf, Needs};
-ghost use Rattle.runners.specs.Runs.{blocksInAll, ProgramMeets, CallMeets};
+ghost use Rattle.steps.specs.Steps.{taskOf};
+ghost use Rattle.runners.specs.Meets.{Begins, ProgramMeets, CallMeets};
 
 // How a program's run came to its end. An alarm has its number and its place.
-pub enum How {
+pub enum Ending {
     Returned,
     Ended,
     Stopped(u8, usize),
 }
 
 pub struct Outcome {
-    pub how: How,
+    pub ending: Ending,
     pub run: Run,
 }
 
@@ -32,32 +32,37 @@ pub fn run_program(
     calls: u32,
     run: Run,
 ) -> Outcome
-    requires { ⌜ Needs (taskOf (now tape) (now table) set first (length (now buf))) (length (now buf)) program program run × (run .left ≤ blocksInAll) ⌝ }
+    requires { ⌜ Begins (taskOf (now tape) (now table) set first (length (now buf))) (length (now buf)) program run ⌝ }
     ensures { λ r. ⌜ ProgramMeets (taskOf (now (tape .entry)) (now (table .entry)) set first (length (now (buf .entry)))) (now (buf .entry)) program calls run r (now (buf .exit)) ⌝ }
 {
     let line = tape::line::line_at(tape, program);
     let mut now = run;
     let mut at = line.after;
     loop {
-        let did = steps::step::take_step(tape, table, set, first, buf, program, calls, at, now);
-        let what = did.what;
-        let then = did.run;
-        let after = did.after;
-        match what {
-            What::On => {
+        let frame = Frame {
+            program,
+            calls_left: calls,
+            at,
+        };
+        let done = steps::step::take_step(tape, table, set, first, buf, frame, now);
+        let onward = done.onward;
+        let then = done.run;
+        let after = done.after;
+        match onward {
+            Onward::On => {
                 now = then;
                 at = after;
             }
-            What::Jump(place) => {
+            Onward::Jump(place) => {
                 now = then;
                 at = place;
             }
-            What::Call(called, times) => {
+            Onward::Call(called, times) => {
                 let o = run_call(tape, table, set, first, buf, called, calls, times, then);
-                let how = o.how;
+                let ending = o.ending;
                 let back = o.run;
-                match how {
-                    How::Returned => {
+                match ending {
+                    Ending::Returned => {
                         now = back;
                         at = after;
                     }
@@ -66,21 +71,21 @@ pub fn run_program(
                     }
                 }
             }
-            What::Return => {
+            Onward::Return => {
                 return Outcome {
-                    how: How::Returned,
+                    ending: Ending::Returned,
                     run: then,
                 };
             }
-            What::End => {
+            Onward::End => {
                 return Outcome {
-                    how: How::Ended,
+                    ending: Ending::Ended,
                     run: then,
                 };
             }
-            What::Stop(alarm, place) => {
+            Onward::Stop(alarm, place) => {
                 return Outcome {
-                    how: How::Stopped(alarm, place),
+                    ending: Ending::Stopped(alarm, place),
                     run: then,
                 };
             }
@@ -100,12 +105,12 @@ fn run_call(
     times: u32,
     run: Run,
 ) -> Outcome
-    requires { ⌜ Needs (taskOf (now tape) (now table) set first (length (now buf))) (length (now buf)) program program run × (run .left ≤ blocksInAll) ⌝ }
+    requires { ⌜ Begins (taskOf (now tape) (now table) set first (length (now buf))) (length (now buf)) program run ⌝ }
     ensures { λ r. ⌜ CallMeets (taskOf (now (tape .entry)) (now (table .entry)) set first (length (now (buf .entry)))) (now (buf .entry)) program calls times run r (now (buf .exit)) ⌝ }
 {
     if calls == 0 {
         return Outcome {
-            how: How::Stopped(alarms::TOO_DEEP, program),
+            ending: Ending::Stopped(alarms::TOO_DEEP, program),
             run,
         };
     }
@@ -113,10 +118,10 @@ fn run_call(
     let mut n = times;
     while 0 < n {
         let o = run_program(tape, table, set, first, buf, program, calls - 1, now);
-        let how = o.how;
+        let ending = o.ending;
         let back = o.run;
-        match how {
-            How::Returned => {
+        match ending {
+            Ending::Returned => {
                 now = back;
             }
             _ => {
@@ -126,7 +131,7 @@ fn run_call(
         n -= 1;
     }
     Outcome {
-        how: How::Returned,
+        ending: Ending::Returned,
         run: now,
     }
 }

@@ -1,22 +1,22 @@
 -- A call, a jump and the M numbers of group 2, computed from the definitions.
 -- Assumes nothing.
 use mathlib.Core.Path.{_≡_, refl}
-use Rattle.block.specs.Codes.{mCode}
-use Rattle.state.specs.declared.next.Next.the-variants.{On, Call, Jump, Return, End}
-use Rattle.state.specs.Next.{timesOf, steered, flowBy}
+use Rattle.codes.specs.Codes.{gCode, mCode}
+use Rattle.state.specs.declared.request.Request.the-variants.{On, Call, Jump, Return, End}
+use Rattle.state.specs.Request.{timesOf, steered, flowBy}
 
 -- "L is 100 times the subroutine number plus the repeats"
-pub called-thrice : steered 25 8003 ≡ Call 80 3
-unfolding timesOf steered
+pub called-thrice : steered (gCode 25) 8003 On ≡ Call 80 3
+unfolding gCode timesOf steered
 called-thrice = refl
 
 -- "repeats 0 means once"
-pub called-once : steered 25 8000 ≡ Call 80 1
-unfolding timesOf steered
+pub called-once : steered (gCode 25) 8000 On ≡ Call 80 1
+unfolding gCode timesOf steered
 called-once = refl
 
-pub jumped : steered 27 8003 ≡ Jump 8003
-unfolding steered
+pub jumped : steered (gCode 27) 8003 On ≡ Jump 8003
+unfolding gCode steered
 jumped = refl
 
 -- M00, M17, M30

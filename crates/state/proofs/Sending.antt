@@ -1,7 +1,7 @@
 -- The laws of offsets and targets: the numbers of the table and their sums fit an `i32`, and no lawful target is refused.
 -- Assumes nothing.
 use mathlib.Core.Path.{_≡_, ap, _∙_}
-use mathlib.Core.Bool.{true, false}
+use mathlib.Core.Bool.{true, false, cond}
 use mathlib.Core.List.{List}
 use Prim.Native.Nat.{ℕ, zero, suc, _+_, _-_, _*_, _≤_}
 use native.Mathlib.Omega.{arith}
@@ -16,13 +16,15 @@ use mir.Facts.{toZ-ofZ}
 use Rattle.whole.specs.Position.{placed}
 use Rattle.whole.specs.declared.position.Placed.{Placed}
 use Rattle.whole.specs.declared.position.Placed.the-variants.{At}
-use Rattle.whole.proofs.Integers.{whole, add-in, up-mul, down-mul}
+use Rattle.whole.proofs.Integers.{whole, add-in}
 use Rattle.whole.proofs.Held.{Holds, held, is, sum, sum-need}
 use Rattle.whole.proofs.Positions.{InTable, in-range, placed-at, w-placed, u-placed}
-use Rattle.block.specs.Rules.{has}
+use Rattle.block.specs.Slots.{xSlot, zSlot, has}
 use Rattle.block.specs.declared.words.Block.{Block}
 use Rattle.state.specs.declared.target.Pair.{Pair}
-use Rattle.state.specs.Target.{pairOf, correctionPair, offsetOf, placeOr, sent, offsetLeast, offsetGreatest, Table, Sent}
+use Rattle.settings.specs.Known.{Table}
+use Rattle.state.specs.Known.{placeOr, offsetLeast, offsetGreatest, Sent}
+use Rattle.state.specs.Target.{pairOf, correctionPair, offsetOf}
 use Rattle.state.specs.declared.modal.State.{State}
 
 pub zero-in : InTable (pos 0)
@@ -80,11 +82,11 @@ three-between : (a b c : ℤ) → InTable a → InTable b → InTable c → Offs
 three-between a b c ha hb hc = let n = add-in a b in let m = add-in (a +ℤ b) c in record { low = omega whole; high = omega whole }
 
 module _ (table : List ℤ) (h : Table table) (s : State) where
-  first-in : PairIn (pairOf table (s .first))
-  first-in = pair-in table h (s .first)
+  first-in : PairIn (pairOf table (s .«shift_group3»))
+  first-in = pair-in table h (s .«shift_group3»)
 
-  second-in : PairIn (pairOf table (s .second))
-  second-in = pair-in table h (s .second)
+  second-in : PairIn (pairOf table (s .«shift_group5»))
+  second-in = pair-in table h (s .«shift_group5»)
 
   tool-in : PairIn (pairOf table (correctionPair (s .correction)))
   tool-in = pair-in table h (correctionPair (s .correction))
@@ -97,7 +99,11 @@ module _ (table : List ℤ) (h : Table table) (s : State) where
   unfolding offsetOf
   offset-z = three-between _ _ _ (first-in .z) (second-in .z) (tool-in .z)
 
--- ---- where a block sends an axis: what is known of the axis of the slots k and k + 2
+-- ---- where a block sends an axis: by its absolute word in the slot k, by d, which its incremental word in the slot k + 2 says, or nowhere
+abbrev pub goal : Block → ℕ → ℤ → ℤ → ℤ → ℤ
+goal b k d present offset = cond (has b k) (getD (b .value) k (pos 0) +ℤ offset) (cond (has b (k + 2)) (present +ℤ d) present)
+
+-- what is known of the axis
 pub record Going (b : Block) (k : ℕ) (present offset : ℤ) : Type 0 where
   pub at : InTable present
   pub word : InTable (getD (b .value) k (pos 0))
@@ -113,7 +119,7 @@ module _ (s : State) (b : Block) (offset : ℤ) (h : Sent s b offset) where
   offset-fits : SFits w32 offset
   offset-fits = omega whole
 
-  pub going-x : Going b 0 (s .x) offset
+  pub going-x : Going b xSlot (s .x) offset
   going-x = record {
     at = in-range (s .x) (h .x);
     word = words 0 (omega arith);
@@ -123,7 +129,7 @@ module _ (s : State) (b : Block) (offset : ℤ) (h : Sent s b offset) where
     high = h .high;
   }
 
-  pub going-z : Going b 1 (s .z) offset
+  pub going-z : Going b zSlot (s .z) offset
   going-z = record {
     at = in-range (s .z) (h .z);
     word = words 1 (omega arith);
@@ -157,29 +163,24 @@ module _ (b : Block) (k : ℕ) (present offset : ℤ) (g : Going b k present off
       let w = g .word in
       placed-at (word +ℤ offset) (omega whole) (omega whole)
 
-  pub by-word : (times : ℕ) → has b k ≡ true → placeOr (placed (read word +ℤ read offset)) (read present) ≡ sent b k times present offset
-  unfolding sent
-  by-word times h =
+  pub by-word : (d : ℤ) → has b k ≡ true → placeOr (placed (read word +ℤ read offset)) (read present) ≡ goal b k d present offset
+  by-word d h =
       (λ i. placeOr (placed (toZ-ofZ (table-fits word (g .word)) i +ℤ toZ-ofZ (g .offset-fits) i)) (read present))
       ∙ ap (λ (p : Placed). placeOr p (read present)) at-word
       ∙ simp h
 
   -- by an incremental word that counts double, and by one that counts once
-  pub by-double : has b k ≡ false → has b (k + 2) ≡ true → placeOr (placed (read present +ℤ pos 2 *ℤ read step)) (read present) ≡ sent b k 2 present offset
-  unfolding sent
+  pub by-double : has b k ≡ false → has b (k + 2) ≡ true → placeOr (placed (read present +ℤ pos 2 *ℤ read step)) (read present) ≡ goal b k (pos 2 *ℤ step) present offset
   by-double h t =
       (λ i. placeOr (placed (present-is i +ℤ pos 2 *ℤ step-is i)) (read present))
       ∙ ap (λ (p : Placed). placeOr p (read present)) (u-placed present step (g .at) (g .step))
       ∙ simp (h, t)
 
-  pub by-single : has b k ≡ false → has b (k + 2) ≡ true → placeOr (placed (read present +ℤ read step)) (read present) ≡ sent b k 1 present offset
-  unfolding sent
+  pub by-single : has b k ≡ false → has b (k + 2) ≡ true → placeOr (placed (read present +ℤ read step)) (read present) ≡ goal b k step present offset
   by-single h t =
-      let once : pos 1 *ℤ step ≡ step = omega (whole, up-mul 1 step, down-mul 1 step) in
       (λ i. placeOr (placed (present-is i +ℤ step-is i)) (read present))
       ∙ ap (λ (p : Placed). placeOr p (read present)) (w-placed present step (g .at) (g .step))
-      ∙ simp (h, t, once)
+      ∙ simp (h, t)
 
-  pub by-none : (times : ℕ) → has b k ≡ false → has b (k + 2) ≡ false → read present ≡ sent b k times present offset
-  unfolding sent
-  by-none times h t = present-is ∙ simp (h, t)
+  pub by-none : (d : ℤ) → has b k ≡ false → has b (k + 2) ≡ false → read present ≡ goal b k d present offset
+  by-none d h t = present-is ∙ simp (h, t)

@@ -1,38 +1,53 @@
 -- The laws of what a block asks of the runner.
 -- Assumes nothing.
 use mathlib.Core.Path.{_≡_, refl, sym, ap, _∙_}
-use mathlib.Core.Bool.{Bool, true, false}
-use Prim.Native.Nat.{_+_}
-use Rattle.block.specs.Codes.{mCode}
-use Rattle.block.specs.Rules.{has}
-use Rattle.block.specs.Words.{lSlot, mFirst, gFirst}
-use Rattle.block.specs.declared.codes.Code.{Code}
-use Rattle.block.specs.declared.codes.Flow.{Flow}
-use Rattle.block.specs.declared.codes.Meaning.{Meaning}
-use Rattle.block.specs.declared.codes.Meaning.the-variants as means
-use Rattle.block.specs.declared.words.Block.{Block}
-use Rattle.state.specs.declared.next.Next.{Next}
-use Rattle.state.specs.declared.next.Next.the-variants.{On}
-use Rattle.state.specs.Modal.{codeIn}
-use Rattle.state.specs.Next.{steered, flowBy, nextOf}
+use mathlib.Core.Logic.{⊎-elim}
+use mathlib.Core.List.{[], _∷_}
+use Prim.Native.Nat.{ℕ}
+use native.Mathlib.Omega.{arith}
+use types.Run.{OneOf}
+use denote.Enum.Declared.{tagOf}
+use Rattle.codes.specs.declared.meaning.Code.{Code}
+use Rattle.codes.specs.declared.meaning.Code.the-variants as code
+use Rattle.codes.specs.declared.meaning.Meaning.{Meaning}
+use Rattle.codes.specs.declared.meaning.Meaning.the-variants as means
+use Rattle.codes.specs.declared.meaning.Steering.{Steering}
+use Rattle.codes.proofs.meaning.Meaning.{the-type}
+use Rattle.state.specs.declared.request.Request.{Request}
+use Rattle.state.specs.declared.request.Request.the-variants.{On}
+use Rattle.state.specs.Request.{steered, flowBy}
 
 -- ---- a code that was matched on
-pub steers-is : {m : Meaning} {f g : Flow} → m ≡ means.Steers f → f ≡ g → m ≡ means.Steers g
+pub steers-is : {m : Meaning} {s t : Steering} → m ≡ means.Steers s → s ≡ t → m ≡ means.Steers t
 steers-is e f = e ∙ ap means.Steers f
+
+pub steered-by : {k l : Code} (label : ℕ) (other : Request) → k ≡ l → steered l label other ≡ steered k label other
+steered-by label other e = ap (λ (k : Code). steered k label other) (sym e)
 
 pub flow-by : {k l : Code} → k ≡ l → flowBy l ≡ flowBy k
 flow-by e = ap flowBy (sym e)
 
--- ---- the three ways out; t and u are whether the words of G and of M stand in the block, as the code has them
-pub steers : (b : Block) {t : Bool} {r : Next} → t ≡ has b (gFirst + 6) → t ≡ true → r ≡ steered (codeIn b (gFirst + 6)) (codeIn b lSlot) → r ≡ nextOf b
-unfolding nextOf
-steers b e f g = rw (sym e ∙ f) g
+-- ---- a number that neither calls nor jumps, and one that is none of M00, M17 and M30
+pub no-steering : (g : ℕ) (m : Meaning) (l : ℕ) (other : Request) → OneOf (0 ∷ 1 ∷ 2 ∷ 3 ∷ 5 ∷ 6 ∷ 7 ∷ 8 ∷ []) (tagOf the-type m) → other ≡ steered (code.Of g m) l other
+unfolding steered
+no-steering g (means.Moves m) l other o = refl
+no-steering g (means.CuttingSpeed t) l other o = refl
+no-steering g (means.PerRevolution t) l other o = refl
+no-steering g (means.Shift k) l other o = refl
+no-steering g (means.Steers s) l other o = absurd (⊎-elim (λ e. omega arith) (⊎-elim (λ e. omega arith) (⊎-elim (λ e. omega arith) (⊎-elim (λ e. omega arith) (⊎-elim (λ e. omega arith) (⊎-elim (λ e. omega arith) (⊎-elim (λ e. omega arith) (λ e. omega arith))))))) o)
+no-steering g means.Metric l other o = refl
+no-steering g means.Spindle l other o = refl
+no-steering g means.Coolant l other o = refl
+no-steering g (means.Flows f) l other o = refl
 
-pub flows : (b : Block) {t u : Bool} {r : Next} → t ≡ has b (gFirst + 6) → t ≡ false → u ≡ has b (mFirst + 2) → u ≡ true
-    → r ≡ flowBy (mCode (codeIn b (mFirst + 2))) → r ≡ nextOf b
-unfolding nextOf
-flows b e f h k g = rw (sym e ∙ f) (rw (sym h ∙ k) g)
-
-pub on : (b : Block) {t u : Bool} → t ≡ has b (gFirst + 6) → t ≡ false → u ≡ has b (mFirst + 2) → u ≡ false → On ≡ nextOf b
-unfolding nextOf
-on b e f h k = rw (sym e ∙ f) (rw (sym h ∙ k) refl)
+pub no-flow : (g : ℕ) (m : Meaning) → OneOf (0 ∷ 1 ∷ 2 ∷ 3 ∷ 4 ∷ 5 ∷ 6 ∷ 7 ∷ []) (tagOf the-type m) → On ≡ flowBy (code.Of g m)
+unfolding flowBy
+no-flow g (means.Moves m) o = refl
+no-flow g (means.CuttingSpeed t) o = refl
+no-flow g (means.PerRevolution t) o = refl
+no-flow g (means.Shift k) o = refl
+no-flow g (means.Steers s) o = refl
+no-flow g means.Metric o = refl
+no-flow g means.Spindle o = refl
+no-flow g means.Coolant o = refl
+no-flow g (means.Flows f) o = absurd (⊎-elim (λ e. omega arith) (⊎-elim (λ e. omega arith) (⊎-elim (λ e. omega arith) (⊎-elim (λ e. omega arith) (⊎-elim (λ e. omega arith) (⊎-elim (λ e. omega arith) (⊎-elim (λ e. omega arith) (λ e. omega arith))))))) o)

@@ -1,4 +1,5 @@
 -- The definitions that the contracts of this crate cite, and those of the crates built on it.
 pub mod Modal
-pub mod Next
+pub mod Request
 pub mod Target
+pub mod Known

@@ -7,7 +7,9 @@ use whole::position::Position;
 ghost use mathlib.Core.Path.{_≡_};
 ghost use Prim.Native.Nat.{_≤_};
 ghost use lib.IntN.{ℤ};
-ghost use Rattle.state.specs.Target.{pairOf, correctionPair, offsetOf, placeOr, targetX, targetZ, Table, Numbers, Sent};
+ghost use Rattle.state.specs.Target.{pairOf, correctionPair, offsetOf, targetX, targetZ};
+ghost use Rattle.settings.specs.Known.{Table};
+ghost use Rattle.state.specs.Known.{placeOr, Numbers, Sent};
 
 // A pair of the offset table.
 pub struct Pair {
@@ -52,8 +54,8 @@ pub fn offset_of(table: &[i32], s: State) -> Pair
     requires { ⌜ Table (now table) × Numbers s ⌝ }
     ensures { λ r. ⌜ r ≡ offsetOf (now (table .entry)) s ⌝ }
 {
-    let first = pair_of(table, wide(s.first));
-    let second = pair_of(table, wide(s.second));
+    let first = pair_of(table, wide(s.shift_group3));
+    let second = pair_of(table, wide(s.shift_group5));
     let tool = pair_of(table, correction_pair(s.correction));
     let x = first.x + second.x + tool.x;
     let z = first.z + second.z + tool.z;
@@ -77,10 +79,10 @@ pub fn target_x(s: State, b: Block, offset: i32) -> i32
 {
     let x = s.x;
     let present = Position { um: x };
-    if block::rules::has(b, block::words::X) {
+    if block::words::has(b, block::words::X) {
         return place_or(Position::from_word(b.value[block::words::X], offset), x);
     }
-    if block::rules::has(b, block::words::U) {
+    if block::words::has(b, block::words::U) {
         return place_or(present.moved_by_u(b.value[block::words::U]), x);
     }
     x
@@ -93,10 +95,10 @@ pub fn target_z(s: State, b: Block, offset: i32) -> i32
 {
     let z = s.z;
     let present = Position { um: z };
-    if block::rules::has(b, block::words::Z) {
+    if block::words::has(b, block::words::Z) {
         return place_or(Position::from_word(b.value[block::words::Z], offset), z);
     }
-    if block::rules::has(b, block::words::W) {
+    if block::words::has(b, block::words::W) {
         return place_or(present.moved_by_w(b.value[block::words::W]), z);
     }
     z

@@ -1,7 +1,7 @@
 // A listing compared with the one that is wanted, line by line.
 // A line `*N` in the listing that is wanted says that the line before it stands N times more: so a list of thousands of equal records stays short.
-use tape::number::Kind;
-use tape::number::Number;
+use numbers::Number;
+use numbers::NumberForm;
 ghost use Prim.Native.Nat.{_≤_};
 ghost use lib.ListN.{length};
 ghost use Rattle.stored.specs.Texts.{FromOne};
@@ -41,7 +41,7 @@ fn repeats(line: &[u8]) -> u32 {
     if line[0] != b'*' {
         return 0;
     }
-    let number = tape::number::read_number(&line[1..], Kind::FourDigits);
+    let number = numbers::read_number(&line[1..], NumberForm::FourDigits);
     match number {
         Number::Value(n, _) => whole::signed::magnitude(n),
         Number::Bad => 0,

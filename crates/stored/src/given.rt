@@ -1,10 +1,11 @@
 // What a case is run with: the numbers of the table and the settings. They stand in one array, the table's 208 first and then the settings, as 01's
 // `listmoves` has them until a line names another: `=retract 300`, `=offset 3 -1500` for number 3 of the table, `=bytes 24` for the buffer's size, `=numbers 207` for a table cut short; the first two letters of a word tell it.
-use tape::number::Kind;
-use tape::number::Number;
+use numbers::Number;
+use numbers::NumberForm;
 ghost use mathlib.Core.Path.{_≡_};
 ghost use Prim.Native.Nat.{_≤_};
 ghost use lib.ListN.{length};
+ghost use Rattle.settings.specs.Wrong.{tableSize};
 ghost use Rattle.stored.specs.Given.{usual};
 
 // Where the lines end that begin with `=`, and whether each could be read.
@@ -13,37 +14,37 @@ pub struct Start {
     pub at: usize,
 }
 
-const TABLE: usize = 208;
+const TABLE: usize = settings::control::TABLE_SIZE;
 
-pub const MAIN: usize = 208;
+pub const MAIN: usize = TABLE + settings::row::MAIN;
 
-pub const LOWEST: usize = 209;
+pub const LOWEST: usize = TABLE + settings::row::LOWEST_SUBROUTINE;
 
-pub const RETRACT: usize = 210;
+pub const RETRACT: usize = TABLE + settings::row::RETRACT;
 
-pub const X: usize = 211;
+pub const X: usize = TABLE + settings::row::START_X;
 
-pub const Z: usize = 212;
+pub const Z: usize = TABLE + settings::row::START_Z;
 
-pub const X_LOW: usize = 213;
+pub const X_LOW: usize = TABLE + settings::row::X_LOWEST;
 
-pub const X_HIGH: usize = 214;
+pub const X_HIGH: usize = TABLE + settings::row::X_HIGHEST;
 
-pub const Z_LOW: usize = 215;
+pub const Z_LOW: usize = TABLE + settings::row::Z_LOWEST;
 
-pub const Z_HIGH: usize = 216;
+pub const Z_HIGH: usize = TABLE + settings::row::Z_HIGHEST;
 
-const NUMBERS: usize = 217;
+const NUMBERS: usize = TABLE + settings::row::COUNT;
 
-const BYTES: usize = 218;
+const BYTES: usize = NUMBERS + 1;
 
 // How many numbers there are; as a place, that of none of them.
-pub const ALL: usize = 219;
+pub const ALL: usize = BYTES + 1;
 
 // As a place: the one that a second number of the line names.
-const OFFSET: usize = 220;
+const OFFSET: usize = ALL + 1;
 
-// 01, of `listmoves`: "with main 1, lowest subroutine 80, retract 500, start X 60000 Z 50000, limits -200000 to 200000, table zero". Its buffer has room for 4,000 records.
+// A table of zeros and the settings of `listmoves`, as the contract holds them to be; its buffer has room for every list.
 pub fn usual() -> [i32; ALL]
     ensures { λ r. ⌜ r ≡ usual ⌝ }
 {
@@ -71,7 +72,7 @@ fn at_most(n: u32, most: usize) -> usize
 
 // How many numbers the table has.
 pub fn numbers_of(given: &[i32; ALL]) -> usize
-    ensures { λ r. ⌜ r ≤ 208 ⌝ }
+    ensures { λ r. ⌜ r ≤ tableSize ⌝ }
 {
     at_most(whole::signed::magnitude(given[NUMBERS]), TABLE)
 }
@@ -110,7 +111,7 @@ fn place_of(first: u8, second: u8) -> usize {
 
 // The place of a number of the table, which counts from 1.
 fn table_place(digits: &[u8]) -> usize {
-    let number = tape::number::read_number(digits, Kind::FourDigits);
+    let number = numbers::read_number(digits, NumberForm::FourDigits);
     let Number::Value(n, _) = number else {
         return ALL;
     };
@@ -126,7 +127,7 @@ fn table_place(digits: &[u8]) -> usize {
 
 // Puts a number at its place, and answers whether there is such a number and such a place.
 fn set_number(given: &mut [i32; ALL], place: usize, digits: &[u8]) -> bool {
-    let number = tape::number::read_number(digits, Kind::Path);
+    let number = numbers::read_number(digits, NumberForm::Path);
     let Number::Value(n, _) = number else {
         return false;
     };

@@ -1,8 +1,3 @@
--- The laws of the tape's bytes, and its worked examples.
-pub mod Digits
-pub mod Examples
+-- The laws of lines and of scanning along them.
 pub mod Lining
-pub mod Ranges
 pub mod Scanning
-pub mod Within
-pub mod Wording

@@ -1,7 +1,7 @@
 -- Laws of lines: steps of `gapOf` along a list, the bounds of `lineAt`, and the list of lines opened one line at a time.
 -- Assumes nothing.
 use Prim.Native.Nat.{ℕ, zero, suc, _+_, _-_, _<_, _≤_}
-use mathlib.Core.Bool.{Bool, true, false, cond, _&&_}
+use mathlib.Core.Bool.{Bool, true, false, cond, not, _&&_, _||_}
 use mathlib.Core.List.{List, [], _∷_}
 use mathlib.Core.Path.{_≡_, refl, ap, _∙_}
 use native.Mathlib.Numerals.{add-one}
@@ -10,10 +10,10 @@ use borrow.Author.Tests.{ne-eqb, lt-ltb, le-ltb, ltb-true, ltb-false}
 use lib.Dec.{eqb, ltb}
 use lib.ListN.{length, drop, getD, drop-of-length-le, length-drop}
 use lib.Seq.{drop-cons}
+use Rattle.letters.specs.Letters.{cr, space, opening, closing}
 use Rattle.tape.specs.declared.line.Line.{Line}
 use Rattle.tape.specs.declared.line.Gap.the-variants.{At, Fault}
-use Rattle.tape.specs.Letters.{cr, space, opening, closing}
-use Rattle.tape.specs.Lines.{seekFrom, isLineFeed, lineAt, LineIn, onBy, gapOf, GapIn, Text, textAt, linesUp, lines}
+use Rattle.tape.specs.Lines.{seekFrom, isLineFeed, lineAt, LineIn, gapOf, GapIn, Text, textAt, linesUp, lines}
 use Rattle.tape.proofs.Scanning.{scan-within}
 
 -- one law for each way on and each way out of a gap
@@ -56,20 +56,16 @@ gap-at : (inside : Bool) (i : ℕ) (s : List ℕ) (n : ℕ) → i + length s ≤
 unfolding gapOf
 gap-at true i [] n h from f = tt
 gap-at false i [] n h from f = omega arith
-gap-at true i (b ∷ s) n h from f = go (eqb b cr) (eqb b closing) (gap-at false (i + 1) s n (omega arith) from (omega arith)) (gap-at true (i + 1) s n (omega arith) from (omega arith))
+gap-at true i (b ∷ s) n h from f = go (eqb b cr) (gap-at (not (eqb b closing)) (i + 1) s n (omega arith) from (omega arith))
   where
-    go : (t u : Bool) → GapIn (gapOf false (i + 1) s) from n → GapIn (gapOf true (i + 1) s) from n
-        → GapIn (onBy t (λ j. Fault) (onBy u (λ j. gapOf false j s) (λ j. gapOf true j s)) (i + 1)) from n
-    go true u x y = tt
-    go false true x y = x
-    go false false x y = y
-gap-at false i (b ∷ s) n h from f = go (eqb b opening) (eqb b space) (gap-at true (i + 1) s n (omega arith) from (omega arith)) (gap-at false (i + 1) s n (omega arith) from (omega arith))
+    go : (t : Bool) → GapIn (gapOf (not (eqb b closing)) (i + 1) s) from n → GapIn (cond t Fault (gapOf (not (eqb b closing)) (i + 1) s)) from n
+    go true x = tt
+    go false x = x
+gap-at false i (b ∷ s) n h from f = go (eqb b opening || eqb b space) (gap-at (eqb b opening) (i + 1) s n (omega arith) from (omega arith))
   where
-    go : (t u : Bool) → GapIn (gapOf true (i + 1) s) from n → GapIn (gapOf false (i + 1) s) from n
-        → GapIn (onBy t (λ j. gapOf true j s) (onBy u (λ j. gapOf false j s) (λ j. At i)) (i + 1)) from n
-    go true u x y = x
-    go false true x y = y
-    go false false x y = omega arith
+    go : (t : Bool) → GapIn (gapOf (eqb b opening) (i + 1) s) from n → GapIn (cond t (gapOf (eqb b opening) (i + 1) s) (At i)) from n
+    go true x = x
+    go false x = omega arith
 
 module _ (s : List ℕ) (i : ℕ) (h : i ≤ length s) where
   pub gap-in : GapIn (gapOf false i (drop i s)) i (length s)

@@ -1,6 +1,2 @@
 -- The definitions that the contracts of this crate cite, and those of the crates built on it.
-pub mod Letters
 pub mod Lines
-pub mod Numbers
-pub mod Words
-pub mod Text

@@ -1,14 +1,14 @@
 -- 01, "Reading a tape": "All bytes before the first `%` or `O` are ignored (001); the first line begins there. A line ends with LF, CR LF or the end of
 -- the tape. .. A comment runs from `(` to the first `)` on the same line and is not taken over (001)."
-use mathlib.Core.Bool.{Bool, true, false, cond, _&&_, _||_}
+use mathlib.Core.Bool.{Bool, true, false, cond, not, _&&_, _||_}
 use mathlib.Core.List.{List, [], _∷_}
 use Prim.Native.Nat.{ℕ, zero, suc, _+_, _-_, _<_, _≤_}
 use lib.Dec.{ltb, eqb}
 use lib.ListN.{length, getD, take, drop}
+use Rattle.letters.specs.Letters.{lf, cr, space, percent, opening, closing, letterO}
 use Rattle.tape.specs.declared.line.Line.{Line}
 use Rattle.tape.specs.declared.line.Gap.{Gap}
 use Rattle.tape.specs.declared.line.Gap.the-variants.{At, Fault}
-use Rattle.tape.specs.Letters.{lf, cr, space, percent, opening, closing, letterO}
 
 -- how many bytes come before the first that passes a test, or how many there are at all
 unfoldable pub seek : (ℕ → Bool) → List ℕ → ℕ
@@ -42,18 +42,16 @@ pub record LineIn (r : Line) (from n : ℕ) : Type 0 where
   pub ends : r .after ≤ n
   pub onward : from < n → from < r .after
 
--- one of two ways on from a place, of which the other is not gone
-abbrev pub onBy : Bool → (ℕ → Gap) → (ℕ → Gap) → ℕ → Gap
-onBy true f g j = f j
-onBy false f g j = g j
-
 -- the place of the first byte of a line's text that is neither a space nor in a comment, or of the text's end; the list's first byte stands at
--- place i. The first argument: whether a comment is open. A comment that is still open at the end, or that holds a CR, is a fault
+-- place i. The first argument: whether a comment is open. Each clause goes on in one place, so that the definition computes on whole lines
 unfoldable pub gapOf : Bool → ℕ → List ℕ → Gap
+-- at the end of the text: a comment that is still open is a fault
 gapOf true i [] = Fault
 gapOf false i [] = At i
-gapOf true i (b ∷ s) = onBy (eqb b cr) (λ j. Fault) (onBy (eqb b closing) (λ j. gapOf false j s) (λ j. gapOf true j s)) (i + 1)
-gapOf false i (b ∷ s) = onBy (eqb b opening) (λ j. gapOf true j s) (onBy (eqb b space) (λ j. gapOf false j s) (λ j. At i)) (i + 1)
+-- in a comment: a CR is a fault, `)` closes it, anything else goes on
+gapOf true i (b ∷ s) = cond (eqb b cr) Fault (gapOf (not (eqb b closing)) (i + 1) s)
+-- outside: `(` opens one, a space goes on, anything else is here
+gapOf false i (b ∷ s) = cond (eqb b opening || eqb b space) (gapOf (eqb b opening) (i + 1) s) (At i)
 
 abbrev pub GapIn : Gap → ℕ → ℕ → Type 0
 GapIn Fault from n = Unit {0}

@@ -1,5 +1,3 @@
-// The bytes of a tape: where its lines end, what is passed over, and the words of a line with their numbers.
-// How a word is written is known here, and what its number is worth; not what the word asks for. (01: "Reading a tape".)
+// The bytes of a tape: where its lines begin and end, and what is passed over between two words. (01: "Reading a tape".)
+// What stands between the gaps the crate `addresses` reads.
 pub mod line;
-pub mod number;
-pub mod word;

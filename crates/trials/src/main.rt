@@ -1,13 +1,12 @@
 // Trials of blocks: each is run from the state at the start, and what came of it is written: its name, a line for each record, and then `next ..`, what the last
 // block asks of the runner, or `ALARM n`. The file `stdin` holds them: a name, LF, how many records have room, LF, the blocks, and byte 30. `stdout` holds what 01 says of each.
-mod run;
-
 use libc::STDIN_FILENO;
 use libc::STDOUT_FILENO;
-use run::Came;
-use state::next::Next;
-use tape::number::Kind;
-use tape::number::Number;
+use numbers::Number;
+use numbers::NumberForm;
+use state::request::Request;
+use trying::Came;
+use trying::Tried;
 ghost use Prim.Native.Nat.{_+_, _≤_};
 ghost use lib.ListN.{length};
 ghost use Rattle.moves.specs.Form.{headerSize, recordStart, recordSize};
@@ -43,22 +42,29 @@ fn four_at(buf: &[u8], at: usize) -> [u8; 4]
     [buf[at], buf[at + 1], buf[at + 2], buf[at + 3]]
 }
 
+// Writes a place: X and Z, which stand at `at`.
+fn show_place(buf: &[u8], at: usize)
+    requires { ⌜ at + 8 ≤ length (now buf) ⌝ }
+{
+    let x = four_at(buf, at);
+    let z = four_at(buf, at + 4);
+    show_signed(whole::bytes::i32_of_bytes(x));
+    show_text(b" ");
+    show_signed(whole::bytes::i32_of_bytes(z));
+    show_text(b" ");
+}
+
 // Writes the record whose first byte stands at `at`, as 01's listing has it: "kind, flags, X, Z and value". It is read from the bytes of the list, so that what is
 // compared is what was written there.
 fn show_record(buf: &[u8], at: usize)
     requires { ⌜ at + recordSize ≤ length (now buf) ⌝ }
 {
-    let x = four_at(buf, at + 4);
-    let z = four_at(buf, at + 8);
-    let value = four_at(buf, at + 12);
     show_byte(buf[at]);
     show_text(b" ");
     show_byte(buf[at + 1]);
     show_text(b" ");
-    show_signed(whole::bytes::i32_of_bytes(x));
-    show_text(b" ");
-    show_signed(whole::bytes::i32_of_bytes(z));
-    show_text(b" ");
+    show_place(buf, at + 4);
+    let value = four_at(buf, at + 12);
     show_number(whole::bytes::u32_of_bytes(value));
     show_text(b"\n");
 }
@@ -74,28 +80,41 @@ fn show_records(buf: &[u8], n: usize)
     }
 }
 
-// Writes what the last block asks of the runner, or its alarm.
-fn show_next(next: Next) {
-    match next {
-        Next::On => show_text(b"next on"),
-        Next::Call(program, times) => {
-            show_text(b"next call ");
-            show_number(program);
-            show_text(b" ");
-            show_number(times);
-        }
-        Next::Jump(block) => {
-            show_text(b"next jump ");
-            show_number(block);
-        }
-        Next::Return => show_text(b"next return"),
-        Next::End => show_text(b"next end"),
-        Next::Stop(alarm) => {
-            show_text(b"ALARM ");
-            show_byte(alarm);
-        }
-    }
+fn show_call(program: u32, times: u32) {
+    show_text(b"next call ");
+    show_number(program);
+    show_text(b" ");
+    show_number(times);
     show_text(b"\n");
+}
+
+fn show_jump(block: u32) {
+    show_text(b"next jump ");
+    show_number(block);
+    show_text(b"\n");
+}
+
+// Writes what the last block asks of the runner.
+fn show_next(next: Request) {
+    match next {
+        Request::On => show_text(b"next on\n"),
+        Request::Call(program, times) => show_call(program, times),
+        Request::Jump(block) => show_jump(block),
+        Request::Return => show_text(b"next return\n"),
+        Request::End => show_text(b"next end\n"),
+    }
+}
+
+// Writes the alarm of the last block, or what it asks of the runner.
+fn show_end(tried: Tried) {
+    if tried.alarm != 0 {
+        show_text(b"ALARM ");
+        show_byte(tried.alarm);
+        show_text(b"\n");
+        return;
+    }
+    let next = tried.next;
+    show_next(next);
 }
 
 fn show_unreadable() {
@@ -106,13 +125,12 @@ fn show_unreadable() {
 fn show_run(lines: &[u8], buf: &mut [u8])
     requires { ⌜ headerSize ≤ length (now buf) ⌝ }
 {
-    let came = run::run_lines(lines, buf);
+    let came = trying::run_lines(lines, buf);
     match came {
         Came::Unreadable => show_unreadable(),
-        Came::Ran(did) => {
-            show_records(buf, did.count);
-            let next = did.next;
-            show_next(next);
+        Came::Ran(tried) => {
+            show_records(buf, tried.count);
+            show_end(tried);
         }
     }
 }
@@ -132,7 +150,7 @@ fn show_in_room(lines: &[u8], room: u32) {
 fn show(name: &[u8], room: &[u8], lines: &[u8]) {
     show_text(name);
     show_text(b"\n");
-    let number = tape::number::read_number(room, Kind::TwoDigits);
+    let number = numbers::read_number(room, NumberForm::TwoDigits);
     match number {
         Number::Value(n, _) => show_in_room(lines, whole::signed::magnitude(n)),
         Number::Bad => show_unreadable(),

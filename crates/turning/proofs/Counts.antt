@@ -18,11 +18,11 @@ use Rattle.whole.proofs.Sides.{along-add, along-zero}
 use Rattle.division.proofs.Divisions.{count-is, pieces-length, pieces-sum}
 use Rattle.whole.proofs.Integers.{whole, range, sub-in, abs}
 use Rattle.moves.specs.Form.{AllFitting}
-use Rattle.cycles.specs.declared.axis.Axis.{Axis}
-use Rattle.cycles.specs.Axis.{side, net, allowanceLine}
-use Rattle.cycles.proofs.Fitting.{rapid-fitting, feed-fitting}
-use Rattle.cycles.proofs.Axes.{line-net, line-fits}
-use Rattle.turning.specs.declared.cycle.Cycle.{Cycle}
+use Rattle.axes.specs.declared.axis.Axis.{Axis}
+use Rattle.axes.specs.Axis.{side, net, allowanceLine}
+use Rattle.axes.proofs.Fitting.{rapid-fitting, feed-fitting}
+use Rattle.axes.proofs.Axes.{line-net, line-fits}
+use Rattle.turning.specs.declared.cycle.Turning.{Turning}
 use Rattle.turning.specs.declared.passes.Pass.{Pass}
 use Rattle.turning.specs.Turning.{passCount, row, passFor, passOn, passes, turning, recordCount}
 use Rattle.turning.proofs.Turned.{some-passes}
@@ -39,7 +39,7 @@ passes-length p s l (d ∷ ds) =
     let k : ℤ = l +ℤ along s d in
     length-append (passOn p k) (passes (passOn p) s k ds) ∙ omega (arith, pass-length p k, passes-length p s k ds)
 
-pub turning-length : (c : Cycle) → 0 < net (c .infeed) → length (turning c) ≡ recordCount c
+pub turning-length : (c : Turning) → 0 < net (c .infeed) → length (turning c) ≡ recordCount c
 unfolding turning recordCount
 turning-length c h =
     let e : ℕ = net (c .infeed) in
@@ -52,7 +52,7 @@ pub record Stands (a : Axis) : Type 0 where
   pub start : SFits w32 (a .start)
   pub target : SFits w32 (a .target)
 
-pub turning-fitting : (c : Cycle) → Stands (c .infeed) → Stands (c .path) → c .f < 2 ^ 32 → 0 < net (c .infeed) → 0 < net (c .path) → AllFitting (turning c)
+pub turning-fitting : (c : Turning) → Stands (c .infeed) → Stands (c .path) → c .f < 2 ^ 32 → 0 < net (c .infeed) → 0 < net (c .path) → AllFitting (turning c)
 unfolding turning passes passOn
 turning-fitting c i p v h g =
     subst (λ (l : ℤ). AllFitting (passes (passOn (passFor c)) (side a) l (row c))) (along-zero (a .start) (side a))
@@ -91,7 +91,7 @@ few-passes e (suc d) h =
 apart : (a b : ℤ) → SFits w32 a → SFits w32 b → natAbs (a -ℤ b) < 2 ^ 32
 apart a b f g = let x = range f in let y = range g in let d = sub-in a b in let m = abs (a -ℤ b) in omega whole
 
-pub few-turning : (c : Cycle) → Stands (c .infeed) → 0 < net (c .infeed) → recordCount c < 4 * 2 ^ 32
+pub few-turning : (c : Turning) → Stands (c .infeed) → 0 < net (c .infeed) → recordCount c < 4 * 2 ^ 32
 unfolding recordCount
 few-turning c s h =
     let a = c .infeed in

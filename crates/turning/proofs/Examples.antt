@@ -7,12 +7,12 @@ use Prim.Native.Nat.{ℕ}
 use lib.IntN.{pos, negsuc}
 use Rattle.division.specs.Division.{count, pieces}
 use Rattle.moves.specs.Kinds.{rapid, feed}
-use Rattle.cycles.specs.Goes.{rapidTo, feedTo}
-use Rattle.turning.specs.declared.cycle.Cycle.{Cycle}
+use Rattle.axes.specs.Goes.{rapidTo, feedTo}
+use Rattle.turning.specs.declared.cycle.Turning.{Turning}
 use Rattle.turning.specs.Turning.{tooShort, passCount, row, passOn, passes, turning, recordCount}
 
 -- block N20 of the listing, `G84 X30. Z-20. D0=400 D2=100 D3=2500 F120` from X40. Z2.
-abbrev pub listed : Cycle
+abbrev pub listed : Turning
 listed = record {
   facing = false;
   infeed = record { start = pos 40000; target = pos 30000; allowance = 400 };
@@ -40,7 +40,7 @@ unfolding count passCount recordCount
 listed-count = refl
 
 -- facing, the axes are exchanged: `G84 Z-5. X20. D0=400 D2=99 D3=3500` under G94, from X40. Z2. The infeed is 7,000 less 99, the division D3 itself
-abbrev pub faced : Cycle
+abbrev pub faced : Turning
 faced = record {
   facing = true;
   infeed = record { start = pos 2000; target = negsuc 4999; allowance = 99 };
@@ -64,7 +64,7 @@ unfolding count pieces rapidTo feedTo passCount passOn passes turning
 faced-records = refl
 
 -- "P9: G84 X distance 400, D0 400: alarm 19; D0 399: one step of 1."
-abbrev pub shallow : ℕ → ℕ → Cycle
+abbrev pub shallow : ℕ → ℕ → Turning
 shallow allowance division = record {
   facing = false;
   infeed = record { start = pos 40000; target = pos 39600; allowance = allowance };

@@ -15,13 +15,14 @@ use Rattle.division.specs.Division.{sum}
 use Rattle.whole.proofs.Sides.{along-add, along-zero}
 use Rattle.division.proofs.Divisions.{pieces-length, pieces-sum}
 use Rattle.moves.specs.declared.record.Record.{Record}
-use Rattle.cycles.specs.declared.limits.Limits.{Limits}
-use Rattle.cycles.specs.Axis.{side, net, allowanceLine}
-use Rattle.cycles.specs.Limits.{outsideSpan, outsideTo, anyOutside}
-use Rattle.cycles.proofs.Axes.{line-net}
-use Rattle.cycles.proofs.Reaching.{span-between}
-use Rattle.cycles.proofs.Places.{alike, neither, both, inSpan, acrossSpan, within, not-outside, rapid-ends, feed-ends}
-use Rattle.turning.specs.declared.cycle.Cycle.{Cycle}
+use Rattle.settings.specs.declared.limits.Limits.{Limits}
+use Rattle.axes.specs.Axis.{side, net, allowanceLine}
+use Rattle.settings.specs.Limits.{outsideSpan}
+use Rattle.axes.specs.Limits.{outsideTo, anyOutside}
+use Rattle.axes.proofs.Axes.{line-net}
+use Rattle.axes.proofs.Reaching.{span-between}
+use Rattle.axes.proofs.Places.{alike, neither, both, inSpan, acrossSpan, within, not-outside, rapid-ends, feed-ends}
+use Rattle.turning.specs.declared.cycle.Turning.{Turning}
 use Rattle.turning.specs.declared.passes.Pass.{Pass}
 use Rattle.turning.specs.Turning.{passCount, row, passFor, passOn, passes, turning}
 use Rattle.turning.proofs.Turned.{some-passes}
@@ -85,7 +86,7 @@ last-within l p s k (d ∷ (d′ ∷ ds)) h e =
     (last-within l p s (k +ℤ along s d) (d′ ∷ ds) (omega arith) (legs l p (k +ℤ along s d) (passes (passOn p) s (k +ℤ along s d) (d′ ∷ ds)) e .1))
 
 -- ---- THE LAW
-pub reach : (l : Limits) (c : Cycle) → 0 < net (c .infeed)
+pub reach : (l : Limits) (c : Turning) → 0 < net (c .infeed)
     → anyOutside l (turning c)
     ≡ (outsideTo l (c .facing) (c .infeed .start) (c .path .start) || outsideTo l (c .facing) (allowanceLine (c .infeed)) (allowanceLine (c .path)))
 unfolding turning

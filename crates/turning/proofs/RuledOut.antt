@@ -11,9 +11,9 @@ use Rattle.division.specs.Division.{Evenly}
 use Rattle.whole.proofs.Integers.{whole, up}
 use Rattle.division.proofs.RuledOut.{thin-last, copied-first}
 use Rattle.moves.specs.declared.record.Record.{Record}
-use Rattle.cycles.specs.Axis.{side}
-use Rattle.cycles.specs.Goes.{rapidTo, feedTo}
-use Rattle.turning.specs.declared.cycle.Cycle.{Cycle}
+use Rattle.axes.specs.Axis.{side}
+use Rattle.axes.specs.Goes.{rapidTo, feedTo}
+use Rattle.turning.specs.declared.cycle.Turning.{Turning}
 use Rattle.turning.specs.Turning.{passFor, passOn, passes}
 use Rattle.turning.specs.Turned.{passLines, eachDepth, Depths, FeedsWithin, Turned}
 use Rattle.turning.proofs.Examples.{listed}
@@ -27,7 +27,7 @@ depths-row : {e d : ℕ} {zs : List ℤ} → Depths e d zs → Evenly e d (map u
 depths-row {e} {d} v = subst (Evenly e d) (sym (ap (map up) (v .is) ∙ up-pos (v .row))) (v .evenly)
 
 -- a longitudinal cycle from X20. to an X target, with nothing left, the division 3,000
-abbrev pub upTo : ℤ → Cycle
+abbrev pub upTo : ℤ → Turning
 upTo target = record {
   facing = false;
   infeed = record { start = pos 20000; target = target; allowance = 0 };
@@ -38,7 +38,7 @@ upTo target = record {
 }
 
 -- its passes, of the depths of a row, right or wrong
-abbrev pub cutAs : Cycle → List ℕ → List Record
+abbrev pub cutAs : Turning → List ℕ → List Record
 cutAs c ds = passes (passOn (passFor c)) (side (c .infeed)) (c .infeed .start) ds
 
 -- THE FIRST DEPTH COPIED to all passes, where 10,001 was to be divided: the first is right, the others copy it
@@ -66,7 +66,7 @@ unfolding rapidTo feedTo FeedsWithin
 to-the-target t = let k = t .kept .1 .0 refl .to .path in absurd (omega (whole, k))
 
 -- and past that of the infeed, with no division: one pass on the X target, though D0 leaves 400
-abbrev pub undivided : Cycle
+abbrev pub undivided : Turning
 undivided = record { facing = false; infeed = listed .infeed; path = listed .path; division = 0; f = 120; g95 = true }
 
 pub all-of-the-infeed : Turned undivided (cutAs undivided (10000 ∷ [])) → ⊥

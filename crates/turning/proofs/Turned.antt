@@ -19,11 +19,11 @@ use Rattle.whole.proofs.Integers.{whole, add-in, sub-in, up-neg, down-neg, abs}
 use Rattle.whole.proofs.Sides.{along-add, along-zero}
 use Rattle.division.proofs.Divisions.{evenly, pieces-sum, count-above}
 use Rattle.moves.specs.declared.record.Record.{Record}
-use Rattle.cycles.specs.declared.axis.Axis.{Axis}
-use Rattle.cycles.specs.Axis.{side, net, allowanceLine}
-use Rattle.cycles.specs.Goes.{rapidTo, feedTo, inwardOf, acrossOf}
-use Rattle.cycles.proofs.Axes.{line-net}
-use Rattle.turning.specs.declared.cycle.Cycle.{Cycle}
+use Rattle.axes.specs.declared.axis.Axis.{Axis}
+use Rattle.axes.specs.Axis.{side, net, allowanceLine}
+use Rattle.axes.specs.Goes.{rapidTo, feedTo, inwardOf, acrossOf}
+use Rattle.axes.proofs.Axes.{line-net}
+use Rattle.turning.specs.declared.cycle.Turning.{Turning}
 use Rattle.turning.specs.Turning.{passCount, row, passFor, passOn, passes, turning}
 use Rattle.turning.specs.Turned.{feedKind, passLines, beyond, eachDepth, NotPast, Within, Feeds, FeedsWithin, Turned}
 
@@ -82,7 +82,7 @@ feed-reads true f g95 i a = record { kind = refl; inward = refl; across = refl }
 feed-reads false f g95 i a = record { kind = refl; inward = refl; across = refl }
 
 -- ---- the lines of a row of passes
-lines-cons : (c : Cycle) (i p : ℤ) {r : Record} {k : ℕ} {j q : ℤ} (rs : List Record) → Reads (c .facing) r k j q
+lines-cons : (c : Turning) (i p : ℤ) {r : Record} {k : ℕ} {j q : ℤ} (rs : List Record) → Reads (c .facing) r k j q
     → passLines c i p (r ∷ rs) ≡ cond (eqb k feedKind && (eqb (natAbs (j -ℤ i)) 0 && ltb 0 (natAbs (q -ℤ p)))) (j ∷ passLines c j q rs) (passLines c j q rs)
 unfolding passLines
 lines-cons c i p rs r =
@@ -101,7 +101,7 @@ still : (z : ℤ) → natAbs (z -ℤ z) ≡ 0
 still z = omega (whole, abs (z -ℤ z), sub-in z z)
 
 -- a pass is read as one line, wherever it is begun: the feed along the path is one, the feed back out is none
-pass-line : (c : Cycle) (i l : ℤ) (rs : List Record) → 0 < net (c .path)
+pass-line : (c : Turning) (i l : ℤ) (rs : List Record) → 0 < net (c .path)
     → passLines c i (c .path .start) (passOn (passFor c) l ++ rs) ≡ l ∷ passLines c (c .infeed .start) (c .path .start) rs
 unfolding passOn
 pass-line c i l rs h =
@@ -121,7 +121,7 @@ pass-line c i l rs h =
     ∙ lines-cons c s e rs (rapid-reads (c .facing) s o))
 
 -- the depths read off the passes of a row are the row
-row-read : (c : Cycle) → 0 < net (c .infeed) → 0 < net (c .path) → (l : ℤ) (ds : List ℕ)
+row-read : (c : Turning) → 0 < net (c .infeed) → 0 < net (c .path) → (l : ℤ) (ds : List ℕ)
     → eachDepth (side (c .infeed)) l (passLines c (c .infeed .start) (c .path .start) (passes (passOn (passFor c)) (side (c .infeed)) l ds)) ≡ map pos ds
 unfolding eachDepth passLines passes
 row-read c h p l [] = refl
@@ -131,21 +131,21 @@ row-read c h p l (d ∷ ds) =
     ∙ λ j. beyond-along (side (c .infeed)) l d (sided (c .infeed) h) j ∷ row-read c h p k ds j
 
 -- ---- no feed past the allowance
-feeds-cons : (c : Cycle) (i p : ℤ) {r : Record} {k : ℕ} {j q : ℤ} (rs : List Record) → Reads (c .facing) r k j q
+feeds-cons : (c : Turning) (i p : ℤ) {r : Record} {k : ℕ} {j q : ℤ} (rs : List Record) → Reads (c .facing) r k j q
     → (k ≡ feedKind → Feeds c i p j q) → FeedsWithin c j q rs → FeedsWithin c i p (r ∷ rs)
 unfolding FeedsWithin
 feeds-cons c i p rs r g w =
     subst₃ (λ (k : ℕ) (j q : ℤ). (k ≡ feedKind → Feeds c i p j q) × FeedsWithin c j q rs) (sym (r .kind)) (sym (r .inward)) (sym (r .across)) (g, w)
 
-rapid-on : (c : Cycle) (i p j q : ℤ) (rs : List Record) → FeedsWithin c j q rs → FeedsWithin c i p (rapidTo (c .facing) j q ∷ rs)
+rapid-on : (c : Turning) (i p j q : ℤ) (rs : List Record) → FeedsWithin c j q rs → FeedsWithin c i p (rapidTo (c .facing) j q ∷ rs)
 rapid-on c i p j q rs w = feeds-cons c i p rs (rapid-reads (c .facing) j q) (λ e. absurd (omega arith)) w
 
-feed-on : (c : Cycle) (i p j q : ℤ) (rs : List Record) → Feeds c i p j q → FeedsWithin c j q rs
+feed-on : (c : Turning) (i p j q : ℤ) (rs : List Record) → Feeds c i p j q → FeedsWithin c j q rs
     → FeedsWithin c i p (feedTo (c .facing) (c .f) (c .g95) j q ∷ rs)
 feed-on c i p j q rs g w = feeds-cons c i p rs (feed-reads (c .facing) (c .f) (c .g95) j q) (λ _. g) w
 
 -- a pass on a line that is not past the allowance, wherever it is begun
-pass-kept : (c : Cycle) (i p l : ℤ) (rs : List Record) → 0 < net (c .infeed) → 0 < net (c .path) → NotPast (c .infeed) l
+pass-kept : (c : Turning) (i p l : ℤ) (rs : List Record) → 0 < net (c .infeed) → 0 < net (c .path) → NotPast (c .infeed) l
     → FeedsWithin c (c .infeed .start) (c .path .start) rs → FeedsWithin c i p (passOn (passFor c) l ++ rs)
 unfolding passOn
 pass-kept c i p l rs hi hp on w =
@@ -162,7 +162,7 @@ pass-kept c i p l rs hi hp on w =
     (feed-on c l o l e out (record { from = record { infeed = on; path = home }; to = there; straight = ap (λ (n : ℕ). eqb n 0 || eqb (natAbs (e -ℤ o)) 0) (still l) })
     (feed-on c l e s e back (record { from = there; to = record { infeed = from; path = end }; straight = ap (λ (n : ℕ). eqb (natAbs (s -ℤ l)) 0 || eqb n 0) (still e) ∙ or-true (eqb (natAbs (s -ℤ l)) 0) }) (rapid-on c s e s o rs w)))
 
-row-kept : (c : Cycle) → 0 < net (c .infeed) → 0 < net (c .path) → (m : ℕ) (ds : List ℕ) → m + sum ds ≤ net (c .infeed)
+row-kept : (c : Turning) → 0 < net (c .infeed) → 0 < net (c .path) → (m : ℕ) (ds : List ℕ) → m + sum ds ≤ net (c .infeed)
     → FeedsWithin c (c .infeed .start) (c .path .start) (passes (passOn (passFor c)) (side (c .infeed)) (c .infeed .start +ℤ along (side (c .infeed)) m) ds)
 unfolding FeedsWithin passes
 row-kept c h p m [] g = tt
@@ -189,7 +189,7 @@ unfolding passCount
 some-passes e zero h = omega arith
 some-passes e (suc d) h = rw (ne-eqb (suc d) 0 (λ z. absurd (omega arith))) (count-above e (suc d) h (omega arith))
 
-pub turned : (c : Cycle) → 0 < net (c .infeed) → 0 < net (c .path) → Turned c (turning c)
+pub turned : (c : Turning) → 0 < net (c .infeed) → 0 < net (c .path) → Turned c (turning c)
 unfolding turning passCount divided
 turned c h p = record {
   divided = λ d. record {

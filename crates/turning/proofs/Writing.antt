@@ -21,9 +21,9 @@ use Rattle.moves.specs.declared.record.Record.{Record}
 use Rattle.moves.specs.Form.{recordStart, recordBytes, rowBytes}
 use Rattle.moves.proofs.Rows.{row-on, row-one}
 use Rattle.moves.proofs.OneReading.{length-row}
-use Rattle.cycles.specs.Axis.{side, net, allowanceLine}
-use Rattle.cycles.specs.Goes.{rapidTo, feedTo}
-use Rattle.turning.specs.declared.cycle.Cycle.{Cycle}
+use Rattle.axes.specs.Axis.{side, net, allowanceLine}
+use Rattle.axes.specs.Goes.{rapidTo, feedTo}
+use Rattle.turning.specs.declared.cycle.Turning.{Turning}
 use Rattle.turning.specs.declared.passes.Pass.{Pass}
 use Rattle.turning.specs.Turning.{passCount, passOn, passes, turning}
 use Rattle.turning.proofs.Counts.{pass-length}
@@ -54,7 +54,7 @@ pass-laid p l b k h {line} {from} {home} {end} el ef eh ee {b₁} {b₂} {b₃} 
     ∙ (λ i. laid b (recordStart k) (rowBytes (into (el i) (eh i) ∷ cut (el i) (ee i) ∷ cut (ef i) (ee i) ∷ into (ef i) (eh i) ∷ [])))
 
 -- passes of a cycle's places and lengths, as the code holds them, are its records
-pub turning-laid : (c : Cycle) (b : List ℕ) (at : ℕ) {u : List ℕ} {from home end : ℤ} {s : Side} {e n : ℕ}
+pub turning-laid : (c : Turning) (b : List ℕ) (at : ℕ) {u : List ℕ} {from home end : ℤ} {s : Side} {e n : ℕ}
     → from ≡ c .infeed .start → home ≡ c .path .start → end ≡ allowanceLine (c .path) → s ≡ side (c .infeed)
     → e ≡ net (c .infeed) → n ≡ passCount (net (c .infeed)) (c .division)
     → u ≡ laid b at (rowBytes (passes (passOn (record { facing = c .facing; f = c .f; g95 = c .g95; from = from; home = home; end = end })) s from (pieces e n)))

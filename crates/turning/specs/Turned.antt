@@ -12,10 +12,10 @@ use Rattle.whole.specs.declared.signed.Side.{Side}
 use Rattle.whole.specs.declared.signed.Side.the-variants.{Minus, Zero, Plus}
 use Rattle.division.specs.Division.{Evenly}
 use Rattle.moves.specs.declared.record.Record.{Record}
-use Rattle.cycles.specs.declared.axis.Axis.{Axis}
-use Rattle.cycles.specs.Axis.{side, net, allowanceLine}
-use Rattle.cycles.specs.Goes.{inwardOf, acrossOf}
-use Rattle.turning.specs.declared.cycle.Cycle.{Cycle}
+use Rattle.axes.specs.declared.axis.Axis.{Axis}
+use Rattle.axes.specs.Axis.{side, net, allowanceLine}
+use Rattle.axes.specs.Goes.{inwardOf, acrossOf}
+use Rattle.turning.specs.declared.cycle.Turning.{Turning}
 
 -- ---- reading the records
 -- a feed record
@@ -23,7 +23,7 @@ abbrev pub feedKind : ℕ
 feedKind = 2
 
 -- a pass is a feed that moves along the path and not in or out: the lines on which the passes cut, of records that begin at i on the infeed axis and p on the path
-unfoldable pub passLines : Cycle → ℤ → ℤ → List Record → List ℤ
+unfoldable pub passLines : Turning → ℤ → ℤ → List Record → List ℤ
 passLines c i p [] = []
 passLines c i p (r ∷ rs) =
     let j = inwardOf (c .facing) r in
@@ -42,7 +42,7 @@ eachDepth s l [] = []
 eachDepth s l (k ∷ ks) = beyond s l k ∷ eachDepth s k ks
 
 -- the depths of the passes, toward the target: each pass line against the one before, the first against the start
-abbrev pub depths : Cycle → List Record → List ℤ
+abbrev pub depths : Turning → List Record → List ℤ
 depths c rs = eachDepth (side (c .infeed)) (c .infeed .start) (passLines c (c .infeed .start) (c .path .start) rs)
 
 -- ---- the promise
@@ -57,18 +57,18 @@ abbrev pub NotPast : Axis → ℤ → Type 0
 NotPast a z = pos 0 ≤ℤ beyond (side a) z (allowanceLine a)
 
 -- a place of both axes not past the allowance
-pub record Within (c : Cycle) (i p : ℤ) : Type 0 where
+pub record Within (c : Turning) (i p : ℤ) : Type 0 where
   pub infeed : NotPast (c .infeed) i
   pub path : NotPast (c .path) p
 
 -- a feed from i and p to j and q begins and ends within the allowance, and so does what lies between; it moves on one axis, so that it is a pass or none
-pub record Feeds (c : Cycle) (i p j q : ℤ) : Type 0 where
+pub record Feeds (c : Turning) (i p j q : ℤ) : Type 0 where
   pub from : Within c i p
   pub to : Within c j q
   pub straight : (eqb (natAbs (j -ℤ i)) 0 || eqb (natAbs (q -ℤ p)) 0) ≡ true
 
 -- every feed of a row of records that begins at i and p is such a feed
-unfoldable pub FeedsWithin : Cycle → ℤ → ℤ → List Record → Type 0
+unfoldable pub FeedsWithin : Turning → ℤ → ℤ → List Record → Type 0
 FeedsWithin c i p [] = Unit {0}
 FeedsWithin c i p (r ∷ rs) =
     let j = inwardOf (c .facing) r in
@@ -76,7 +76,7 @@ FeedsWithin c i p (r ∷ rs) =
     (r .kind ≡ feedKind → Feeds c i p j q) × FeedsWithin c j q rs
 
 -- what a row of records promises of a cycle that is not too short
-pub record Turned (c : Cycle) (rs : List Record) : Type 0 where
+pub record Turned (c : Turning) (rs : List Record) : Type 0 where
   -- with a division the depths divide the infeed less the allowance evenly
   pub divided : 0 < c .division → Depths (net (c .infeed)) (c .division) (depths c rs)
   -- without one there is one pass of all of it

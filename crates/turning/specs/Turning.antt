@@ -9,14 +9,14 @@ use Rattle.whole.specs.declared.signed.Side.{Side}
 use Rattle.whole.specs.Signed.{along}
 use Rattle.division.specs.Division.{count, pieces}
 use Rattle.moves.specs.declared.record.Record.{Record}
-use Rattle.cycles.specs.Axis.{side, net, allowanceLine}
-use Rattle.cycles.specs.Goes.{rapidTo, feedTo}
-use Rattle.turning.specs.declared.cycle.Cycle.{Cycle}
+use Rattle.axes.specs.Axis.{side, net, allowanceLine}
+use Rattle.axes.specs.Goes.{rapidTo, feedTo}
+use Rattle.turning.specs.declared.cycle.Turning.{Turning}
 use Rattle.turning.specs.declared.passes.Pass.{Pass}
 
 -- A CYCLE { facing, infeed, path, division, f, g95 } goes in along `infeed` and cuts along `path`. Longitudinal these are X and Z, facing Z and X.
 -- "E and the shortened length must be at least 1" (else alarm 19)
-unfoldable pub tooShort : Cycle → Bool
+unfoldable pub tooShort : Turning → Bool
 tooShort c = eqb (net (c .infeed)) 0 || eqb (net (c .path)) 0
 
 -- "n = E/d rounded up"; "No D3, or 0: one pass"
@@ -24,11 +24,11 @@ unfoldable pub passCount : ℕ → ℕ → ℕ
 passCount e d = cond (eqb d 0) 1 (count e d)
 
 -- the depths of its passes, one after the other
-abbrev pub row : Cycle → List ℕ
+abbrev pub row : Turning → List ℕ
 row c = pieces (net (c .infeed)) (passCount (net (c .infeed)) (c .division))
 
 -- what its passes share
-abbrev pub passFor : Cycle → Pass
+abbrev pub passFor : Turning → Pass
 passFor c =
     record { facing = c .facing; f = c .f; g95 = c .g95; from = c .infeed .start; home = c .path .start; end = allowanceLine (c .path) }
 
@@ -47,8 +47,8 @@ passes p s l [] = []
 passes p s l (d ∷ ds) = p (l +ℤ along s d) ++ passes p s (l +ℤ along s d) ds
 
 -- the records of a cycle, and how many they are
-unfoldable pub turning : Cycle → List Record
+unfoldable pub turning : Turning → List Record
 turning c = passes (passOn (passFor c)) (side (c .infeed)) (c .infeed .start) (row c)
 
-unfoldable pub recordCount : Cycle → ℕ
+unfoldable pub recordCount : Turning → ℕ
 recordCount c = 4 * passCount (net (c .infeed)) (c .division)

@@ -1,15 +1,15 @@
 // A turning cycle as its block gives it, and what is asked of it before a record is written.
 // None of these opens the cycle: each costs the same for one pass and for millions.
-use cycles::axis::Axis;
-use cycles::limits::Limits;
+use axes::axis::Axis;
+use settings::limits::Limits;
 ghost use mathlib.Core.Path.{_≡_};
 ghost use Prim.Native.Nat.{_<_};
-ghost use Rattle.cycles.specs.Axis.{net};
-ghost use Rattle.cycles.specs.Limits.{anyOutside};
+ghost use Rattle.axes.specs.Axis.{net};
+ghost use Rattle.axes.specs.Limits.{anyOutside};
 ghost use Rattle.turning.specs.Turning.{tooShort, passCount, recordCount, turning};
 
 // `division` is the greatest pass on the infeed axis, 0 for one pass; `f` and `g95` are those of its feeds.
-pub struct Cycle {
+pub struct Turning {
     pub facing: bool,
     pub infeed: Axis,
     pub path: Axis,
@@ -19,12 +19,12 @@ pub struct Cycle {
 }
 
 // "E and the shortened length must be at least 1" (alarm 19).
-pub fn too_short(c: Cycle) -> bool
+pub fn too_short(c: Turning) -> bool
     ensures { λ r. ⌜ r ≡ tooShort c ⌝ }
 {
     let infeed = c.infeed;
     let path = c.path;
-    (cycles::axis::net_of(infeed) == 0) | (cycles::axis::net_of(path) == 0)
+    (axes::axis::net_of(infeed) == 0) | (axes::axis::net_of(path) == 0)
 }
 
 // How many passes make e; a division of 0 asks for one.
@@ -39,26 +39,26 @@ pub fn pass_count(e: u32, division: u32) -> u32
 }
 
 // How many records the cycle has (alarm 20). Its lengths were asked for before (19).
-pub fn record_count(c: Cycle) -> u64
+pub fn record_count(c: Turning) -> u64
     requires { ⌜ 0 < net (c .infeed) ⌝ }
     ensures { λ r. ⌜ r ≡ recordCount c ⌝ }
 {
     let infeed = c.infeed;
-    let e = cycles::axis::net_of(infeed);
+    let e = axes::axis::net_of(infeed);
     let n = pass_count(e, c.division);
     4 * (n as u64)
 }
 
 // Whether a move of the cycle ends outside the limits (alarm 18), asked at its two extreme points: the start, and the last pass line at the end line.
-pub fn ends_outside(c: Cycle, l: Limits) -> bool
+pub fn ends_outside(c: Turning, l: Limits) -> bool
     requires { ⌜ (0 < net (c .infeed)) × (0 < net (c .path)) ⌝ }
     ensures { λ r. ⌜ r ≡ anyOutside l (turning c) ⌝ }
 {
     let infeed = c.infeed;
     let path = c.path;
     let facing = c.facing;
-    let at_start = cycles::limits::is_outside_to(l, facing, infeed.start, path.start);
-    let last = cycles::axis::line_of(infeed);
-    let end = cycles::axis::line_of(path);
-    at_start | cycles::limits::is_outside_to(l, facing, last, end)
+    let at_start = axes::limits::is_outside_to(l, facing, infeed.start, path.start);
+    let last = axes::axis::line_of(infeed);
+    let end = axes::axis::line_of(path);
+    at_start | axes::limits::is_outside_to(l, facing, last, end)
 }

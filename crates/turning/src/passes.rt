@@ -1,6 +1,6 @@
 // The passes of a turning cycle, written one after the other into the room that was asked for.
 // Each pass line is the one before and one piece of the division more.
-use crate::cycle::Cycle;
+use crate::cycle::Turning;
 use whole::signed::Side;
 ghost use mathlib.Core.Path.{_≡_};
 ghost use Prim.Native.Nat.{_+_, _*_, _<_, _≤_};
@@ -12,7 +12,7 @@ ghost use Rattle.whole.specs.Signed.{along};
 ghost use Rattle.whole.specs.Bytes.{laid};
 ghost use Rattle.division.specs.Division.{pieces};
 ghost use Rattle.moves.specs.Form.{recordStart, rowBytes};
-ghost use Rattle.cycles.specs.Axis.{net};
+ghost use Rattle.axes.specs.Axis.{net};
 ghost use Rattle.turning.specs.Turning.{recordCount, passOn, passes, turning};
 
 // What all passes of a cycle share: how they feed, where they start and where they end.
@@ -37,10 +37,10 @@ fn put_pass(buf: &mut [u8], k: usize, p: Pass, line: i32)
     let from = p.from;
     let home = p.home;
     let end = p.end;
-    cycles::goes::put_rapid(buf, k, facing, line, home);
-    cycles::goes::put_feed(buf, second, facing, p.f, p.g95, line, end);
-    cycles::goes::put_feed(buf, third, facing, p.f, p.g95, from, end);
-    cycles::goes::put_rapid(buf, fourth, facing, from, home);
+    axes::goes::put_rapid(buf, k, facing, line, home);
+    axes::goes::put_feed(buf, second, facing, p.f, p.g95, line, end);
+    axes::goes::put_feed(buf, third, facing, p.f, p.g95, from, end);
+    axes::goes::put_rapid(buf, fourth, facing, from, home);
 }
 
 // Writes n passes that divide e evenly, from record k on.
@@ -61,7 +61,7 @@ fn put_passes(buf: &mut [u8], k: usize, p: Pass, side: Side, e: u32, n: u32)
 }
 
 // Writes the records of a cycle, from record k on. Its lengths and its room were asked for before (alarms 19 and 20).
-pub fn put_turning(buf: &mut [u8], k: usize, c: Cycle)
+pub fn put_turning(buf: &mut [u8], k: usize, c: Turning)
     requires { ⌜ (0 < net (c .infeed)) × (0 < net (c .path)) × (recordStart (k + recordCount c) ≤ length (now buf)) ⌝ }
     ensures { λ _. ⌜ now (buf .exit) ≡ laid (now (buf .entry)) (recordStart k) (rowBytes (turning c)) ⌝ }
 {
@@ -70,9 +70,9 @@ pub fn put_turning(buf: &mut [u8], k: usize, c: Cycle)
     let from = infeed.start;
     let to = infeed.target;
     let home = path.start;
-    let end = cycles::axis::line_of(path);
+    let end = axes::axis::line_of(path);
     let side = whole::signed::side_of(from, to);
-    let e = cycles::axis::net_of(infeed);
+    let e = axes::axis::net_of(infeed);
     let n = crate::cycle::pass_count(e, c.division);
     let p = Pass {
         facing: c.facing,

@@ -2,3 +2,4 @@
 pub mod Signed
 pub mod Position
 pub mod Bytes
+pub mod Among

@@ -4,6 +4,10 @@ use lib.IntN.{ℤ, pos, negsuc, negℤ}
 use Rattle.whole.specs.declared.signed.Side.{Side}
 use Rattle.whole.specs.declared.signed.Side.the-variants.{Minus, Zero, Plus}
 
+-- a number below zero by its size: `minus 9_999_999` is -9,999,999
+abbrev pub minus : ℕ → ℤ
+minus n = negℤ (pos n)
+
 -- the side of zero on which a number lies
 abbrev pub sideOf : ℤ → Side
 sideOf (pos zero) = Zero
@@ -12,6 +16,6 @@ sideOf (negsuc n) = Minus
 
 -- the length n laid off to a side
 abbrev pub along : Side → ℕ → ℤ
-along Minus n = negℤ (pos n)
+along Minus n = minus n
 along Zero n = pos 0
 along Plus n = pos n

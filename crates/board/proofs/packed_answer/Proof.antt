@@ -5,14 +5,8 @@ use Rattle.board.proofs.Doors.{packs, fits-by, packed-by}
 use Rattle.board.proofs.packed_answer.Statement.{statement}
 use Rattle.board.proofs.packed_answer.Tie as tie
 
-enum-known-answer : tie.Need-enum-known-answer
-enum-known-answer c = search needs
-
 packed-requires : tie.Need-packed-requires
 packed-requires c κs = (omega arith, fits-by (c .before .answer .given .1) (c .before .before .before .pre) .count)
-
-enum-known-answer-2 : tie.Need-enum-known-answer-2
-enum-known-answer-2 c = search needs
 
 packed-requires-2 : tie.Need-packed-requires-2
 packed-requires-2 c κs = let f = fits-by (c .before .answer2 .given .1) (c .before .before .before .pre) in (f .place, f .count)
@@ -31,9 +25,9 @@ pub packed-answer-spec : {M : Type 1} → statement M
 packed-answer-spec =
     tie.close
     (tie.spec
-    enum-known-answer
+    (λ c. search needs)
     packed-requires
-    enum-known-answer-2
+    (λ c. search needs)
     packed-requires-2
     returns
     returns-2)

@@ -2,15 +2,10 @@
 use mathlib.Core.Path.{sym, _∙_}
 use denote.Ref.{now}
 use borrow.Author.Needs.{needs}
-use Rattle.board.proofs.Doors.{nine, refused-here, ran-here, answer-fits}
+use Rattle.settings.proofs.Rows.{all-there}
+use Rattle.board.proofs.Doors.{refused-here, ran-here, answer-fits}
 use Rattle.board.proofs.tm02_interpret.Statement.{statement}
 use Rattle.board.proofs.tm02_interpret.Tie as tie
-
-unfit-requires : tie.Need-unfit-requires
-unfit-requires c κs = search needs
-
-packed-answer-requires : tie.Need-packed-answer-requires
-packed-answer-requires c κs = search needs
 
 returns : tie.Need-returns
 returns c =
@@ -18,18 +13,12 @@ returns c =
     refused-here (now (a .tape)) (now (a .table)) (now (a .settings)) (now (a .buf)) (sym (c .before .before .unfit .ensures) ∙ c .before .if1 .taken) (c .packed-answer .ensures)
 
 settings-of-requires : tie.Need-settings-of-requires
-settings-of-requires c κs = nine (now (c .before .before .before .before .args .settings)) (sym (c .before .unfit .ensures) ∙ c .if1 .left)
-
-interpret-requires : tie.Need-interpret-requires
-interpret-requires c κs = search needs
+settings-of-requires c κs = all-there (now (c .before .before .before .before .args .settings)) (sym (c .before .unfit .ensures) ∙ c .if1 .left)
 
 packed-answer-requires-2 : tie.Need-packed-answer-requires-2
 packed-answer-requires-2 c κs =
     let a = c .before .before .before .before .before .before .before .before .before .args in
     answer-fits (now (a .tape)) (now (a .table)) (now (a .settings)) (now (a .buf)) _ (c .before .before .interpret .ensures .0)
-
-same-length : tie.Need-same-length
-same-length c = search needs
 
 returns-2 : tie.Need-returns-2
 returns-2 c =
@@ -43,11 +32,11 @@ pub tm02-interpret-spec : {M : Type 1} → statement M
 tm02-interpret-spec =
     tie.close
     (tie.spec
-    unfit-requires
-    packed-answer-requires
+    (λ c κs. search needs)
+    (λ c κs. search needs)
     returns
     settings-of-requires
-    interpret-requires
+    (λ c κs. search needs)
     packed-answer-requires-2
-    same-length
+    (λ c. search needs)
     returns-2)

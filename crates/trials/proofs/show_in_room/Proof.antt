@@ -8,24 +8,6 @@ use Rattle.moves.specs.Form.{recordStart}
 use Rattle.trials.proofs.show_in_room.Statement.{statement}
 use Rattle.trials.proofs.show_in_room.Tie as tie
 
-show-unreadable-requires : tie.Need-show-unreadable-requires
-show-unreadable-requires c κs = search needs
-
-returns : tie.Need-returns
-returns c = search needs
-
-buffer-requires : tie.Need-buffer-requires
-buffer-requires c κs = search needs
-
-mul-end : tie.Need-mul-end
-mul-end c = search needs
-
-add-end : tie.Need-add-end
-add-end c = search needs
-
-array-borrow-prefix-all : tie.Need-array-borrow-prefix-all
-array-borrow-prefix-all c = search needs
-
 -- the part that is lent is as long as was asked
 lent : (c : tie.After-all) → let end = recordStart (c .before .before .before .before .args .room) in length (take end (c .before .buffer .result)) ≡ end
 lent c = length-take-le _ (c .before .buffer .result) (omega arith)
@@ -36,19 +18,16 @@ slice-aggregate-show-run c = sym (lent c)
 show-run-requires : tie.Need-show-run-requires
 show-run-requires c κs = omega (arith, lent c)
 
-returns-2 : tie.Need-returns-2
-returns-2 c = search needs
-
 pub show-in-room-spec : {M : Type 1} → statement M
 show-in-room-spec =
     tie.close
     (tie.spec
-    show-unreadable-requires
-    returns
-    buffer-requires
-    mul-end
-    add-end
-    array-borrow-prefix-all
+    (λ c κs. search needs)
+    (λ c. search needs)
+    (λ c κs. search needs)
+    (λ c. search needs)
+    (λ c. search needs)
+    (λ c. search needs)
     slice-aggregate-show-run
     show-run-requires
-    returns-2)
+    (λ c. search needs))

@@ -10,41 +10,17 @@ Inv-loop buf n k₀ k = k ≤ n
 abbrev μ-loop : tie.MeasureT-loop
 μ-loop buf n k₀ k = n - k
 
-loop-holds : tie.Need-loop-holds Inv-loop μ-loop
-loop-holds c = search needs
-
-mul-show-record : tie.Need-mul-show-record Inv-loop μ-loop
-mul-show-record c = search needs
-
-add-show-record : tie.Need-add-show-record Inv-loop μ-loop
-add-show-record c = search needs
-
-show-record-requires : tie.Need-show-record-requires Inv-loop μ-loop
-show-record-requires c κs = search needs
-
-add-k : tie.Need-add-k Inv-loop μ-loop
-add-k c = search needs
-
-loop-less : tie.Need-loop-less Inv-loop μ-loop
-loop-less c = search needs
-
-loop-again : tie.Need-loop-again Inv-loop μ-loop
-loop-again c = search needs
-
-returns : tie.Need-returns Inv-loop μ-loop
-returns c = search needs
-
 pub show-records-spec : {M : Type 1} → statement M
 show-records-spec =
     tie.close
     (tie.spec
     Inv-loop
     μ-loop
-    loop-holds
-    mul-show-record
-    add-show-record
-    show-record-requires
-    add-k
-    loop-less
-    loop-again
-    returns)
+    (λ c. search needs)
+    (λ c. search needs)
+    (λ c. search needs)
+    (λ c κs. search needs)
+    (λ c. search needs)
+    (λ c. search needs)
+    (λ c. search needs)
+    (λ c. search needs))

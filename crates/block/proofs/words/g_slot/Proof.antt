@@ -1,9 +1,10 @@
 -- `block::words::g_slot` meets its contract.
 use mathlib.Core.Path.{ap, sym, _∙_, subst}
 use Prim.Native.Nat.{_<_}
-use Rattle.block.proofs.Tables.{CodeIn, g-groups}
-use Rattle.block.specs.declared.codes.Code.{Code}
-use Rattle.block.specs.Words.{codeSlot, gFirst}
+use Rattle.codes.proofs.Tables.{CodeIn, g-groups}
+use Rattle.codes.specs.declared.meaning.Code.{Code}
+use Rattle.block.specs.Words.{codeSlot}
+use Rattle.block.specs.Slots.{gSlot}
 use native.Mathlib.Omega.{arith}
 use borrow.Author.Needs.{needs}
 use Rattle.block.proofs.words.g_slot.Statement.{statement}
@@ -28,10 +29,10 @@ enum-told : tie.Need-enum-told
 enum-told c = search needs
 
 returns : tie.Need-returns
-returns c = let s = c .before .before .before in (ap (λ (k : Code). codeSlot k gFirst) (sym (c .before .code .given .1) ∙ s .g-code .ensures), omega (arith, group c))
+returns c = let s = c .before .before .before in (ap (λ (k : Code). codeSlot k gSlot) (sym (c .before .code .given .1) ∙ s .g-code .ensures), omega (arith, group c))
 
 returns-2 : tie.Need-returns-2
-returns-2 c = (ap (λ (k : Code). codeSlot k gFirst) (sym (c .enum-told .given .1) ∙ c .before .before .g-code .ensures), tt)
+returns-2 c = (ap (λ (k : Code). codeSlot k gSlot) (sym (c .enum-told .given .1) ∙ c .before .before .g-code .ensures), tt)
 
 pub g-slot-spec : {M : Type 1} → statement M
 g-slot-spec =

@@ -5,21 +5,6 @@ use borrow.Author.Needs.{needs}
 use Rattle.block.proofs.words.head_of.Statement.{statement}
 use Rattle.block.proofs.words.head_of.Tie as tie
 
-next-word-requires : tie.Need-next-word-requires
-next-word-requires c κs = search needs
-
-enum-told : tie.Need-enum-told
-enum-told c = search needs
-
-enum-told-2 : tie.Need-enum-told-2
-enum-told-2 c = search needs
-
-enum-known-next : tie.Need-enum-known-next
-enum-known-next c = search needs
-
-head-by-requires : tie.Need-head-by-requires
-head-by-requires c κs = search needs
-
 returns : tie.Need-returns
 unfolding headOf
 returns c = ap headOfNext (sym (c .enum-told .given .1) ∙ c .before .before .next-word .ensures .0)
@@ -38,11 +23,11 @@ pub head-of-spec : {M : Type 1} → statement M
 head-of-spec =
     tie.close
     (tie.spec
-    next-word-requires
-    enum-told
-    enum-told-2
-    enum-known-next
-    head-by-requires
+    (λ c κs. search needs)
+    (λ c. search needs)
+    (λ c. search needs)
+    (λ c. search needs)
+    (λ c κs. search needs)
     returns
     returns-2
     returns-3)

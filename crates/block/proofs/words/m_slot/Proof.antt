@@ -1,9 +1,10 @@
 -- `block::words::m_slot` meets its contract.
 use mathlib.Core.Path.{ap, sym, _∙_, subst}
 use Prim.Native.Nat.{_<_}
-use Rattle.block.proofs.Tables.{CodeIn, m-groups}
-use Rattle.block.specs.declared.codes.Code.{Code}
-use Rattle.block.specs.Words.{codeSlot, mFirst}
+use Rattle.codes.proofs.Tables.{CodeIn, m-groups}
+use Rattle.codes.specs.declared.meaning.Code.{Code}
+use Rattle.block.specs.Words.{codeSlot}
+use Rattle.block.specs.Slots.{mSlot}
 use native.Mathlib.Omega.{arith}
 use borrow.Author.Needs.{needs}
 use Rattle.block.proofs.words.m_slot.Statement.{statement}
@@ -28,10 +29,10 @@ enum-told : tie.Need-enum-told
 enum-told c = search needs
 
 returns : tie.Need-returns
-returns c = let s = c .before .before .before in (ap (λ (k : Code). codeSlot k mFirst) (sym (c .before .code .given .1) ∙ s .m-code .ensures), omega (arith, group c))
+returns c = let s = c .before .before .before in (ap (λ (k : Code). codeSlot k mSlot) (sym (c .before .code .given .1) ∙ s .m-code .ensures), omega (arith, group c))
 
 returns-2 : tie.Need-returns-2
-returns-2 c = (ap (λ (k : Code). codeSlot k mFirst) (sym (c .enum-told .given .1) ∙ c .before .before .m-code .ensures), tt)
+returns-2 c = (ap (λ (k : Code). codeSlot k mSlot) (sym (c .enum-told .given .1) ∙ c .before .before .m-code .ensures), tt)
 
 pub m-slot-spec : {M : Type 1} → statement M
 m-slot-spec =

@@ -3,11 +3,12 @@ use mathlib.Core.Path.{_≡_, ap, sym, _∙_, subst}
 use mathlib.Core.Bool.{Bool, true}
 use Prim.Native.Nat.{ℕ, _+_, _<_}
 use lib.ListN.{set}
-use Rattle.tape.specs.declared.word.Word.{Word}
+use Rattle.addresses.specs.declared.Word.{Word}
 use Rattle.block.specs.declared.words.Block.{Block}
 use native.Mathlib.Omega.{arith}
 use Rattle.block.specs.declared.words.Slot.{Slot}
 use Rattle.block.specs.declared.words.Slot.the-variants.{At, Late, Unknown}
+use Rattle.block.specs.Slots.{slots}
 use Rattle.block.specs.Words.{SlotIn, slotOf, isEnd, putIn, putWord}
 use mir.Syntax.{w32}
 use mir.Val.{toZ, ofZ}
@@ -21,20 +22,8 @@ same-value : (c : tie.After-struct-told) → toZ w32 (ofZ w32 (c .before .before
 same-value c = search needs
 
 -- the slot is one of the array's
-slot-in : (c : tie.After-known-told) → c .before .slot .given .0 .0 < 40
+slot-in : (c : tie.After-known-told) → c .before .slot .given .0 .0 < slots
 slot-in c = subst SlotIn (c .before .slot .given .1) (c .before .before .before .before .before .slot-of .ensures .1)
-
-slot-of-requires : tie.Need-slot-of-requires
-slot-of-requires c κs = search needs
-
-is-end-requires : tie.Need-is-end-requires
-is-end-requires c κs = search needs
-
-add-n : tie.Need-add-n
-add-n c = search needs
-
-enum-known-slot : tie.Need-enum-known-slot
-enum-known-slot c = search needs
 
 mul-value : tie.Need-mul-value
 mul-value c = omega (arith, slot-in c)
@@ -44,12 +33,6 @@ element-set-from-value c = slot-in c
 
 element-write-b : tie.Need-element-write-b
 element-write-b c = slot-in c
-
-enum-told : tie.Need-enum-told
-enum-told c = search needs
-
-enum-told-2 : tie.Need-enum-told-2
-enum-told-2 c = search needs
 
 -- a word whose slot is known
 put-by : (b : Block) (w : Word) {k : Slot} → slotOf w ≡ k → putIn k b w ≡ putWord b w
@@ -91,15 +74,15 @@ pub put-word-spec : {M : Type 1} → statement M
 put-word-spec =
     tie.close
     (tie.spec
-    slot-of-requires
-    is-end-requires
-    add-n
-    enum-known-slot
+    (λ c κs. search needs)
+    (λ c κs. search needs)
+    (λ c. search needs)
+    (λ c. search needs)
     mul-value
     element-set-from-value
     element-write-b
-    enum-told
-    enum-told-2
+    (λ c. search needs)
+    (λ c. search needs)
     returns
     returns-2
     returns-3)

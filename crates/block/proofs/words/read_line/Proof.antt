@@ -5,8 +5,8 @@ use mathlib.Core.Bool.{true, false}
 use mathlib.Core.List.{List}
 use Prim.Native.Nat.{ℕ}
 use lib.ListN.{length}
-use Rattle.tape.specs.declared.word.Next.{Next}
-use Rattle.tape.specs.Words.{nextWord, NextIn}
+use Rattle.addresses.specs.declared.NextWord.{NextWord}
+use Rattle.addresses.specs.Words.{nextWord, NextIn}
 use Rattle.block.specs.declared.words.Head.the-variants.{Blank}
 use Rattle.block.specs.Words.{faultyRest, gather, reading, lineBy, lineOf}
 use borrow.Author.Needs.{needs}
@@ -14,37 +14,16 @@ use Rattle.block.proofs.words.read_line.Statement.{statement}
 use Rattle.block.proofs.words.read_line.Tie as tie
 
 -- a line whose first word is known
-line-by : (s : List ℕ) {n : Next} → nextWord s 0 ≡ n → lineBy s n ≡ lineOf s
+line-by : (s : List ℕ) {n : NextWord} → nextWord s 0 ≡ n → lineBy s n ≡ lineOf s
 unfolding lineOf
 line-by s e = ap (lineBy s) (sym e)
-
-next-word-requires : tie.Need-next-word-requires
-next-word-requires c κs = search needs
-
-enum-told : tie.Need-enum-told
-enum-told c = search needs
-
-no-words-requires : tie.Need-no-words-requires
-no-words-requires c κs = search needs
-
-enum-told-2 : tie.Need-enum-told-2
-enum-told-2 c = search needs
-
-no-words-requires-2 : tie.Need-no-words-requires-2
-no-words-requires-2 c κs = search needs
-
-enum-known-next : tie.Need-enum-known-next
-enum-known-next c = search needs
 
 read-rest-requires : tie.Need-read-rest-requires
 read-rest-requires c κs =
     let x = c .before in
     let n = x .before .before in
     let s = n .before .before in
-    (subst (λ (t : Next). NextIn t 0 (length (s .args .line .now))) (x .next .given .1) (n .next-word .ensures .1) .1, s .pre)
-
-head-by-requires : tie.Need-head-by-requires
-head-by-requires c κs = search needs
+    (subst (λ (t : NextWord). NextIn t 0 (length (s .args .line .now))) (x .next .given .1) (n .next-word .ensures .1) .1, s .pre)
 
 returns : tie.Need-returns
 unfolding faultyRest
@@ -72,14 +51,14 @@ pub read-line-spec : {M : Type 1} → statement M
 read-line-spec =
     tie.close
     (tie.spec
-    next-word-requires
-    enum-told
-    no-words-requires
-    enum-told-2
-    no-words-requires-2
-    enum-known-next
+    (λ c κs. search needs)
+    (λ c. search needs)
+    (λ c κs. search needs)
+    (λ c. search needs)
+    (λ c κs. search needs)
+    (λ c. search needs)
     read-rest-requires
-    head-by-requires
+    (λ c κs. search needs)
     returns
     returns-2
     returns-3)

@@ -4,10 +4,10 @@ use native.Mathlib.Omega.{arith}
 use mathlib.Core.Path.{_≡_, sym, ap, _∙_, subst}
 use Prim.Native.Nat.{_+_, _-_, _≤_, _<_}
 use lib.ListN.{length}
-use Rattle.tape.specs.declared.word.Next.{Next}
-use Rattle.tape.specs.declared.word.Next.the-variants as next
-use Rattle.tape.specs.Words.{wordsFrom, NextIn}
-use Rattle.tape.proofs.Within.{NextWord, word-within}
+use Rattle.addresses.specs.declared.NextWord.{NextWord}
+use Rattle.addresses.specs.declared.NextWord.the-variants as next
+use Rattle.addresses.specs.Words.{wordsFrom, NextIn}
+use Rattle.addresses.proofs.Within.{NextWithin, word-within}
 use Rattle.block.specs.declared.words.Block.{Block}
 use Rattle.block.specs.Words.{noWords, gather}
 use Rattle.block.proofs.Lines.{none, put-words, rest-fault, rest-end, rest-foreign, rest-word}
@@ -20,9 +20,6 @@ Inv-loop line from b₀ i₀ b i = (i ≤ length line) × (b .words ≤ i) × (g
 abbrev μ-loop : tie.MeasureT-loop
 μ-loop line from b₀ i₀ b i = length line - i
 
-no-words-requires : tie.Need-no-words-requires Inv-loop μ-loop
-no-words-requires c κs = search needs
-
 loop-holds : tie.Need-loop-holds Inv-loop μ-loop
 loop-holds c =
     let s = c .before .before in
@@ -30,12 +27,6 @@ loop-holds c =
 
 next-word-requires : tie.Need-next-word-requires Inv-loop μ-loop
 next-word-requires c κs = c .loop .inv .0
-
-enum-told : tie.Need-enum-told Inv-loop μ-loop
-enum-told c = search needs
-
-faulty-rest-requires : tie.Need-faulty-rest-requires Inv-loop μ-loop
-faulty-rest-requires c κs = search needs
 
 returns : tie.Need-returns Inv-loop μ-loop
 returns c =
@@ -45,24 +36,12 @@ returns c =
     c .faulty-rest .ensures
     ∙ sym (l .loop .inv .2 ∙ rest-fault (s .args .line .now) (l .loop .i) (l .loop .inv .0) (l .loop .b) (sym (n .next-word .ensures .0) ∙ c .before .enum-told .given .1))
 
-enum-told-2 : tie.Need-enum-told-2 Inv-loop μ-loop
-enum-told-2 c = search needs
-
 returns-2 : tie.Need-returns-2 Inv-loop μ-loop
 returns-2 c =
     let n = c .before .before in
     let l = n .before in
     let s = l .before .before .before in
     sym (l .loop .inv .2 ∙ rest-end (s .args .line .now) (l .loop .i) (l .loop .inv .0) (l .loop .b) (sym (n .next-word .ensures .0) ∙ c .enum-told2 .given .1))
-
-enum-known-next : tie.Need-enum-known-next Inv-loop μ-loop
-enum-known-next c = search needs
-
-is-program-address-requires : tie.Need-is-program-address-requires Inv-loop μ-loop
-is-program-address-requires c κs = search needs
-
-faulty-rest-requires-2 : tie.Need-faulty-rest-requires-2 Inv-loop μ-loop
-faulty-rest-requires-2 c κs = search needs
 
 returns-3 : tie.Need-returns-3 Inv-loop μ-loop
 returns-3 c =
@@ -79,12 +58,12 @@ module _ (x : tie.After-next Inv-loop μ-loop) where
   place : NextIn (next.Word (x .next .given .0 .0) (x .next .given .0 .1 .0)) (x .before .before .before .loop .i) (length (x .before .before .before .before .before .before .args .line .now))
   place =
       let n = x .before .before in
-      subst (λ (t : Next). NextIn t (n .before .loop .i) (length (n .before .before .before .before .args .line .now))) (x .next .given .1) (n .next-word .ensures .1)
+      subst (λ (t : NextWord). NextIn t (n .before .loop .i) (length (n .before .before .before .before .args .line .now))) (x .next .given .1) (n .next-word .ensures .1)
 
   index : x .next .given .0 .0 .index < 10
   index =
       let n = x .before .before in
-      subst NextWord (sym (n .next-word .ensures .0) ∙ x .next .given .1) (word-within (n .before .before .before .before .args .line .now) (n .before .loop .i)) .index
+      subst NextWithin (sym (n .next-word .ensures .0) ∙ x .next .given .1) (word-within (n .before .before .before .before .args .line .now) (n .before .loop .i)) .index
 
 put-word-requires : tie.Need-put-word-requires Inv-loop μ-loop
 put-word-requires c κs =
@@ -118,17 +97,17 @@ read-rest-spec =
     (tie.spec
     Inv-loop
     μ-loop
-    no-words-requires
+    (λ c κs. search needs)
     loop-holds
     next-word-requires
-    enum-told
-    faulty-rest-requires
+    (λ c. search needs)
+    (λ c κs. search needs)
     returns
-    enum-told-2
+    (λ c. search needs)
     returns-2
-    enum-known-next
-    is-program-address-requires
-    faulty-rest-requires-2
+    (λ c. search needs)
+    (λ c κs. search needs)
+    (λ c κs. search needs)
     returns-3
     put-word-requires
     loop-less

@@ -3,8 +3,9 @@ use mathlib.Core.Path.{_≡_, ap, sym, _∙_}
 use Prim.Native.Nat.{ℕ, _+_}
 use native.Mathlib.Omega.{arith}
 use Rattle.block.specs.declared.words.Slot.the-variants.{At}
-use Rattle.block.specs.Codes.{gCode, mCode}
-use Rattle.block.specs.Words.{gFirst, mFirst, pFirst, dFirst, codeSlot, slotOf}
+use Rattle.codes.specs.Codes.{gCode, mCode}
+use Rattle.block.specs.Words.{codeSlot, slotOf}
+use Rattle.block.specs.Slots.{mSlot, pSlot, dSlot, gSlot}
 use Rattle.block.proofs.Slots.{Not, slot-none}
 use mir.Syntax.{w32}
 use mir.Val.{toZ, ofZ}
@@ -19,27 +20,6 @@ same-value c = search needs
 
 same-value2 : (c : tie.After-struct-told2) → toZ w32 (ofZ w32 (c .before .before .before .args .w .value)) ≡ c .before .before .before .args .w .value
 same-value2 c = search needs
-
-wide-requires : tie.Need-wide-requires
-wide-requires c κs = search needs
-
-add-t5 : tie.Need-add-t5
-add-t5 c = search needs
-
-add-t6 : tie.Need-add-t6
-add-t6 c = search needs
-
-magnitude-requires : tie.Need-magnitude-requires
-magnitude-requires c κs = search needs
-
-g-slot-requires : tie.Need-g-slot-requires
-g-slot-requires c κs = search needs
-
-magnitude-requires-2 : tie.Need-magnitude-requires-2
-magnitude-requires-2 c κs = search needs
-
-m-slot-requires : tie.Need-m-slot-requires
-m-slot-requires c κs = search needs
 
 returns : tie.Need-returns
 unfolding slotOf
@@ -75,16 +55,16 @@ returns-8 c = (rw (c .match .keys8), omega arith)
 
 returns-9 : tie.Need-returns-9
 unfolding slotOf
-returns-9 c = (rw (c .match .keys9) (ap (λ (n : ℕ). At (pFirst + n)) (c .before .wide .ensures)), omega arith)
+returns-9 c = (rw (c .match .keys9) (ap (λ (n : ℕ). At (pSlot n)) (c .before .wide .ensures)), omega arith)
 
 returns-10 : tie.Need-returns-10
 unfolding slotOf
-returns-10 c = (rw (c .match .keys10) (ap (λ (n : ℕ). At (dFirst + n)) (c .before .wide .ensures)), omega arith)
+returns-10 c = (rw (c .match .keys10) (ap (λ (n : ℕ). At (dSlot n)) (c .before .wide .ensures)), omega arith)
 
 returns-11 : tie.Need-returns-11
 unfolding slotOf
 returns-11 c = (
-  c .g-slot .ensures .0 ∙ ap (λ (n : ℕ). codeSlot (gCode n) gFirst) (c .before .magnitude .ensures ∙ ap natAbs (same-value (c .before .before)))
+  c .g-slot .ensures .0 ∙ ap (λ (n : ℕ). codeSlot (gCode n) gSlot) (c .before .magnitude .ensures ∙ ap natAbs (same-value (c .before .before)))
       ∙ sym (rw (c .before .before .before .match .keys11)),
   c .g-slot .ensures .1,
 )
@@ -92,7 +72,7 @@ returns-11 c = (
 returns-12 : tie.Need-returns-12
 unfolding slotOf
 returns-12 c = (
-  c .m-slot .ensures .0 ∙ ap (λ (n : ℕ). codeSlot (mCode n) mFirst) (c .before .magnitude2 .ensures ∙ ap natAbs (same-value2 (c .before .before)))
+  c .m-slot .ensures .0 ∙ ap (λ (n : ℕ). codeSlot (mCode n) mSlot) (c .before .magnitude2 .ensures ∙ ap natAbs (same-value2 (c .before .before)))
       ∙ sym (rw (c .before .before .before .match .keys12)),
   c .m-slot .ensures .1,
 )
@@ -109,13 +89,13 @@ pub slot-of-spec : {M : Type 1} → statement M
 slot-of-spec =
     tie.close
     (tie.spec
-    wide-requires
-    add-t5
-    add-t6
-    magnitude-requires
-    g-slot-requires
-    magnitude-requires-2
-    m-slot-requires
+    (λ c κs. search needs)
+    (λ c. search needs)
+    (λ c. search needs)
+    (λ c κs. search needs)
+    (λ c κs. search needs)
+    (λ c κs. search needs)
+    (λ c κs. search needs)
     returns
     returns-2
     returns-3

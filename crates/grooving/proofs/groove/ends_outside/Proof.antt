@@ -6,20 +6,11 @@ use mathlib.Core.Bool.{_||_}
 use mir.Syntax.{w32}
 use mir.Val.{SFits, toZ, ofZ}
 use mir.Facts.{toZ-ofZ}
-use Rattle.cycles.specs.Limits.{outsideTo}
+use Rattle.axes.specs.Limits.{outsideTo}
 use Rattle.grooving.specs.Grooving.{lastWidth}
 use Rattle.grooving.proofs.Reach.{reach}
 use Rattle.grooving.proofs.groove.ends_outside.Statement.{statement}
 use Rattle.grooving.proofs.groove.ends_outside.Tie as tie
-
-is-outside-to-requires : tie.Need-is-outside-to-requires
-is-outside-to-requires c κs = search needs
-
-last-width-requires : tie.Need-last-width-requires
-last-width-requires c κs = search needs
-
-is-outside-to-requires-2 : tie.Need-is-outside-to-requires-2
-is-outside-to-requires-2 c κs = search needs
 
 returns : tie.Need-returns
 returns c =
@@ -40,4 +31,4 @@ returns c =
 pub ends-outside-spec : {M : Type 1} → statement M
 ends-outside-spec =
     tie.close
-    (tie.spec is-outside-to-requires last-width-requires is-outside-to-requires-2 returns)
+    (tie.spec (λ c κs. search needs) (λ c κs. search needs) (λ c κs. search needs) returns)

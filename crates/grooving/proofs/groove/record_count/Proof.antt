@@ -10,15 +10,6 @@ use Rattle.grooving.proofs.Rows.{few-steps, few-plunge}
 use Rattle.grooving.proofs.groove.record_count.Statement.{statement}
 use Rattle.grooving.proofs.groove.record_count.Tie as tie
 
-step-count-requires : tie.Need-step-count-requires
-step-count-requires c κs = search needs
-
-cast-steps : tie.Need-cast-steps
-cast-steps c = search needs
-
-plunge-count-requires : tie.Need-plunge-count-requires
-plunge-count-requires c κs = search needs
-
 returns : tie.Need-returns
 unfolding recordCount
 returns c =
@@ -63,9 +54,9 @@ pub record-count-spec : {M : Type 1} → statement M
 record-count-spec =
     tie.close
     (tie.spec
-    step-count-requires
-    cast-steps
-    plunge-count-requires
+    (λ c κs. search needs)
+    (λ c. search needs)
+    (λ c κs. search needs)
     returns
     add-result
     mul-result

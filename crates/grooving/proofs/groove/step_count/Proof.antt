@@ -11,9 +11,6 @@ use Rattle.grooving.proofs.Rows.{no-steps, step-count-is}
 use Rattle.grooving.proofs.groove.step_count.Statement.{statement}
 use Rattle.grooving.proofs.groove.step_count.Tie as tie
 
-length-of-requires : tie.Need-length-of-requires
-length-of-requires c κs = search needs
-
 sub-rest : tie.Need-sub-rest
 sub-rest c =
     let s = c .before .before .before in
@@ -52,4 +49,4 @@ returns-2 c =
 pub step-count-spec : {M : Type 1} → statement M
 step-count-spec =
     tie.close
-    (tie.spec length-of-requires sub-rest returns sub-piece-count piece-count-requires returns-2)
+    (tie.spec (λ c κs. search needs) sub-rest returns sub-piece-count piece-count-requires returns-2)

@@ -50,9 +50,6 @@ sub-last c = omega (arith, some c)
 loop-holds : tie.Need-loop-holds Inv-loop μ-loop
 loop-holds c = (omega arith, no-cut _ _ _ _ _ _)
 
-add-behind : tie.Need-add-behind Inv-loop μ-loop
-add-behind c = search needs
-
 line-after-requires : tie.Need-line-after-requires Inv-loop μ-loop
 line-after-requires c κs =
     let l = c .before in
@@ -114,9 +111,6 @@ put-rapid-requires c κs = let t = roomy (c .before .before .before .before .bef
 add-next : tie.Need-add-next Inv-loop μ-loop
 add-next c = let t = roomy (c .before .before .before .before .before .before .before .before .before .before .before .before) in search needs
 
-add-done : tie.Need-add-done Inv-loop μ-loop
-add-done c = search needs
-
 loop-less : tie.Need-loop-less Inv-loop μ-loop
 loop-less c = let t = c .before .before .before .before .before .before .before .before .before .before .before .before .loop-test .taken in omega arith
 
@@ -160,7 +154,7 @@ put-cuts-spec =
     cut-count-requires
     sub-last
     loop-holds
-    add-behind
+    (λ c. search needs)
     line-after-requires
     deep-at-requires
     drawn-back-requires
@@ -169,7 +163,7 @@ put-cuts-spec =
     put-feed-requires
     put-rapid-requires
     add-next
-    add-done
+    (λ c. search needs)
     loop-less
     loop-again
     deep-at-requires-3

@@ -14,12 +14,6 @@ use Rattle.grooving.proofs.Writing.{alone-laid, grooving-laid, several-
 use Rattle.grooving.proofs.plunges.put_grooving.Statement.{statement}
 use Rattle.grooving.proofs.plunges.put_grooving.Tie as tie
 
-plunge-count-requires : tie.Need-plunge-count-requires
-plunge-count-requires c κs = search needs
-
-step-count-requires : tie.Need-step-count-requires
-step-count-requires c κs = search needs
-
 -- the start of the width fits
 fits-start : (c : tie.After-struct-told) → SFits w32 (c .before .before .before .args .g .width .start)
 fits-start c = search needs
@@ -38,9 +32,6 @@ put-plunge-requires c κs =
       s .pre .0,
       omega (arith, room (c .before)),
     )
-
-same-length : tie.Need-same-length
-same-length c = search needs
 
 returns : tie.Need-returns
 returns c =
@@ -71,9 +62,6 @@ put-others-requires c κs =
       search needs,
     )
 
-same-length-2 : tie.Need-same-length-2
-same-length-2 c = search needs
-
 returns-2 : tie.Need-returns-2
 returns-2 c =
     let o = c .before .before in
@@ -90,12 +78,12 @@ pub put-grooving-spec : {M : Type 1} → statement M
 put-grooving-spec =
     tie.close
     (tie.spec
-    plunge-count-requires
-    step-count-requires
+    (λ c κs. search needs)
+    (λ c κs. search needs)
     put-plunge-requires
-    same-length
+    (λ c. search needs)
     returns
     add-others
     put-others-requires
-    same-length-2
+    (λ c. search needs)
     returns-2)

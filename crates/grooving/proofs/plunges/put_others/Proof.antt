@@ -103,9 +103,6 @@ roomy c =
 loop-holds : tie.Need-loop-holds Inv-loop μ-loop
 loop-holds c = (omega arith, no-plunge _ _ _ _ _)
 
-add-behind : tie.Need-add-behind Inv-loop μ-loop
-add-behind c = search needs
-
 line-after-requires : tie.Need-line-after-requires Inv-loop μ-loop
 line-after-requires c κs = let t = c .loop-test .taken in (omega (arith, t), omega (arith, t))
 
@@ -158,9 +155,6 @@ add-next c =
     let k = l .before .before .before .before .before .before .before .before .before in
     omega (arith, roomy i, kept l, small k, l .before .before .before .before .plunge-count .ensures)
 
-add-done : tie.Need-add-done Inv-loop μ-loop
-add-done c = search needs
-
 loop-less : tie.Need-loop-less Inv-loop μ-loop
 loop-less c = let t = c .before .before .before .before .before .before .before .before .before .before .loop-test .taken in omega arith
 
@@ -212,14 +206,14 @@ put-others-spec =
     sub-rest
     step-count-requires
     loop-holds
-    add-behind
+    (λ c. search needs)
     line-after-requires
     step-requires
     add-first
     put-rapid-requires
     put-plunge-requires
     add-next
-    add-done
+    (λ c. search needs)
     loop-less
     loop-again
     put-rapid-requires-2

@@ -14,15 +14,6 @@ use Rattle.grooving.proofs.Writing.{plunge-laid, plunge-dwelt, dwelt-co
 use Rattle.grooving.proofs.plunges.put_plunge.Statement.{statement}
 use Rattle.grooving.proofs.plunges.put_plunge.Tie as tie
 
-cut-count-requires : tie.Need-cut-count-requires
-cut-count-requires c κs = search needs
-
-cast-n : tie.Need-cast-n
-cast-n c = search needs
-
-mul-bottom : tie.Need-mul-bottom
-mul-bottom c = search needs
-
 -- ---- there is a cut, and room for the cuts, the dwell and the rapid out
 some : (c : tie.After-cut-count) → 0 < c .cut-count .result
 some c =
@@ -62,9 +53,6 @@ put-rapid-requires c κs =
     let r = room n in
     search needs
 
-same-length : tie.Need-same-length
-same-length c = search needs
-
 returns : tie.Need-returns
 returns c =
     let r = c .before .before in
@@ -93,9 +81,6 @@ put-rapid-requires-2 c κs =
     let r = room-dwelt e in
     search needs
 
-same-length-2 : tie.Need-same-length-2
-same-length-2 c = search needs
-
 -- the bottom fits
 the-target : (c : tie.After-struct-told2) → SFits w32 (c .before .before .before .before .before .before .before .before .before .before .args .g .depth .target)
 the-target c = search needs
@@ -117,17 +102,17 @@ pub put-plunge-spec : {M : Type 1} → statement M
 put-plunge-spec =
     tie.close
     (tie.spec
-    cut-count-requires
-    cast-n
-    mul-bottom
+    (λ c κs. search needs)
+    (λ c. search needs)
+    (λ c. search needs)
     add-bottom
     sub-bottom
     put-cuts-requires
     put-rapid-requires
-    same-length
+    (λ c. search needs)
     returns
     add-out
     put-dwell-requires
     put-rapid-requires-2
-    same-length-2
+    (λ c. search needs)
     returns-2)

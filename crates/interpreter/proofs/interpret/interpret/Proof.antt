@@ -5,15 +5,12 @@ use lib.ListN.{length}
 use denote.Ref.{now}
 use borrow.Author.Needs.{needs}
 use Rattle.interpreter.specs.Answers.{ReadIn}
-use Rattle.interpreter.specs.Wrong.{settingsWrong}
-use Rattle.interpreter.proofs.Right.{right}
+use Rattle.settings.specs.Wrong.{settingsWrong}
+use Rattle.settings.proofs.Right.{right}
 use Rattle.interpreter.proofs.Within.{read-in}
 use Rattle.interpreter.proofs.Whole.{wrong-settings, long-tape, short-buffer, goes-on}
 use Rattle.interpreter.proofs.interpret.interpret.Statement.{statement}
 use Rattle.interpreter.proofs.interpret.interpret.Tie as tie
-
-settings-wrong-requires : tie.Need-settings-wrong-requires
-settings-wrong-requires c κs = search needs
 
 -- the settings are right
 fine : (c : tie.Else1) → let a = c .before .before .before .before .args in settingsWrong (now (a .table)) (a .set) ≡ false
@@ -34,9 +31,6 @@ returns-3 c =
     let a = c .before .before .before .before .before .before .args in
     short-buffer (now (a .tape)) (now (a .table)) (a .set) (now (a .buf)) (fine (c .before .before)) (c .before .if2 .left) (c .if3 .taken)
 
-read-tape-requires : tie.Need-read-tape-requires
-read-tape-requires c κs = search needs
-
 run-read-requires : tie.Need-run-read-requires
 run-read-requires c κs =
     let e = c .before .before in
@@ -45,9 +39,6 @@ run-read-requires c κs =
       right (now (a .table)) (a .set) (fine (e .before .before)),
       e .if3 .left,
     )
-
-same-length : tie.Need-same-length
-same-length c = search needs
 
 returns-4 : tie.Need-returns-4
 returns-4 c =
@@ -60,11 +51,11 @@ pub interpret-spec : {M : Type 1} → statement M
 interpret-spec =
     tie.close
     (tie.spec
-    settings-wrong-requires
+    (λ c κs. search needs)
     returns
     returns-2
     returns-3
-    read-tape-requires
+    (λ c κs. search needs)
     run-read-requires
-    same-length
+    (λ c. search needs)
     returns-4)

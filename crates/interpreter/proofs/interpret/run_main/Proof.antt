@@ -1,33 +1,21 @@
 -- `interpreter::interpret::run_main` meets its contract.
 use denote.Ref.{now}
 use borrow.Author.Needs.{needs}
-use Rattle.interpreter.proofs.Whole.{main-missing, main-needs, finish-needs, main-ran}
+use Rattle.interpreter.proofs.Whole.{main-missing, main-begins, finish-needs, main-ran}
 use Rattle.interpreter.proofs.interpret.run_main.Statement.{statement}
 use Rattle.interpreter.proofs.interpret.run_main.Tie as tie
-
-find-program-requires : tie.Need-find-program-requires
-find-program-requires c κs = search needs
-
-enum-known-found : tie.Need-enum-known-found
-enum-known-found c = search needs
-
-enum-told : tie.Need-enum-told
-enum-told c = search needs
 
 returns : tie.Need-returns
 returns c =
     let a = c .before .before .before .before .before .args in
     main-missing (now (a .tape)) (now (a .table)) (a .set) (a .first) (now (a .buf)) (c .before .before .find-program .ensures) (c .enum-told .given .1)
 
-start-of-requires : tie.Need-start-of-requires
-start-of-requires c κs = search needs
-
 run-program-requires : tie.Need-run-program-requires
 run-program-requires c κs =
     let f = c .before .before .before in
     let s = f .before .before .before .before .before in
     let a = s .args in
-    main-needs (now (a .tape)) (now (a .table)) (a .set) (a .first) (now (a .buf)) (s .pre .0) (s .pre .1) (s .pre .2) (f .before .before .find-program .ensures) (f .found .given .0 .0) (f .found .given .1) (c .start-of .ensures)
+    main-begins (now (a .tape)) (now (a .table)) (a .set) (a .first) (now (a .buf)) (s .pre .0) (s .pre .1) (s .pre .2) (f .before .before .find-program .ensures) (f .found .given .0 .0) (f .found .given .1) (c .start-of .ensures)
 
 finish-requires : tie.Need-finish-requires
 finish-requires c κs =
@@ -36,9 +24,6 @@ finish-requires c κs =
     let s = f .before .before .before .before .before in
     let a = s .args in
     finish-needs (now (a .tape)) (now (a .table)) (a .set) (a .first) (now (a .buf)) (s .pre .0) (s .pre .1) (s .pre .2) (f .found .given .0 .0) (r .before .start-of .ensures) (r .run-program .ensures)
-
-same-length : tie.Need-same-length
-same-length c = search needs
 
 returns-2 : tie.Need-returns-2
 returns-2 c =
@@ -54,12 +39,12 @@ pub run-main-spec : {M : Type 1} → statement M
 run-main-spec =
     tie.close
     (tie.spec
-    find-program-requires
-    enum-known-found
-    enum-told
+    (λ c κs. search needs)
+    (λ c. search needs)
+    (λ c. search needs)
     returns
-    start-of-requires
+    (λ c κs. search needs)
     run-program-requires
     finish-requires
-    same-length
+    (λ c. search needs)
     returns-2)

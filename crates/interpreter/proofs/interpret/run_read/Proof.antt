@@ -7,12 +7,6 @@ use Rattle.interpreter.proofs.Within.{cut-size, first-in}
 use Rattle.interpreter.proofs.interpret.run_read.Statement.{statement}
 use Rattle.interpreter.proofs.interpret.run_read.Tie as tie
 
-enum-known-read : tie.Need-enum-known-read
-enum-known-read c = search needs
-
-enum-known-read-2 : tie.Need-enum-known-read-2
-enum-known-read-2 c = search needs
-
 slice-aggregate-lines : tie.Need-slice-aggregate-lines
 slice-aggregate-lines c =
     let m = c .before .before in
@@ -31,9 +25,6 @@ returns c =
     let a = c .before .before .before .before .before .args in
     read-gives (now (a .tape)) (now (a .table)) (a .set) (now (a .buf)) (c .before .read .given .1) (none-begun _ _ (now (a .buf)))
 
-same-length : tie.Need-same-length
-same-length c = search needs
-
 returns-2 : tie.Need-returns-2
 unfolding readThen
 returns-2 c =
@@ -44,10 +35,10 @@ pub run-read-spec : {M : Type 1} → statement M
 run-read-spec =
     tie.close
     (tie.spec
-    enum-known-read
-    enum-known-read-2
+    (λ c. search needs)
+    (λ c. search needs)
     slice-aggregate-lines
     run-main-requires
     returns
-    same-length
+    (λ c. search needs)
     returns-2)

@@ -9,9 +9,6 @@ use Rattle.listing.proofs.Reading.{held-few}
 use Rattle.listing.proofs.lines.put_list.Statement.{statement}
 use Rattle.listing.proofs.lines.put_list.Tie as tie
 
-room-requires : tie.Need-room-requires
-room-requires c κs = search needs
-
 returns : tie.Need-returns
 returns c = let s = c .before .before .before .before in not-held (s .args .out .now) (s .args .list .now) (s .args .count) (omega (arith, c .before .room .ensures))
 
@@ -28,17 +25,11 @@ add-if2 c = let h = held-few _ _ (held c) in search needs
 returns-2 : tie.Need-returns-2
 returns-2 c = let s = c .before .before .before .before .before in no-room (s .args .out .now) (s .args .list .now) (s .args .count) (held (c .before)) (c .if2 .taken)
 
-put-head-requires : tie.Need-put-head-requires
-put-head-requires c κs = search needs
-
 put-records-requires : tie.Need-put-records-requires
 put-records-requires c κs =
     let h = c .before .before .before in
     let i = h .before .before in
     (held (i .before), omega (arith, h .put-head .ensures .1, i .if2 .left, h .put-head .kept))
-
-same-length : tie.Need-same-length
-same-length c = search needs
 
 returns-3 : tie.Need-returns-3
 returns-3 c =
@@ -52,12 +43,12 @@ pub put-list-spec : {M : Type 1} → statement M
 put-list-spec =
     tie.close
     (tie.spec
-    room-requires
+    (λ c κs. search needs)
     returns
     mul-if2
     add-if2
     returns-2
-    put-head-requires
+    (λ c κs. search needs)
     put-records-requires
-    same-length
+    (λ c. search needs)
     returns-3)

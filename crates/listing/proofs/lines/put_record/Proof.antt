@@ -6,9 +6,10 @@ use mir.Syntax.{w32}
 use mir.Val.{toZ, ofZ}
 use borrow.Author.Needs.{needs}
 use Rattle.moves.specs.Form.{Fitting}
-use Rattle.listing.specs.Listing.{space, signed}
+use Rattle.letters.specs.Letters.{space}
+use Rattle.decimal.specs.Decimal.{signed}
+use Rattle.decimal.proofs.Writing.{wrote-as}
 use Rattle.listing.proofs.Made.{kind-room, flags-room, x-room, z-room, value-room, line-made}
-use Rattle.listing.proofs.Writing.{wrote-as}
 use Rattle.listing.proofs.lines.put_record.Statement.{statement}
 use Rattle.listing.proofs.lines.put_record.Tie as tie
 
@@ -26,14 +27,8 @@ same-z c = search needs
 as-read : {a b : ℤ} → a ≡ b → signed a ++ (space ∷ []) ≡ signed b ++ (space ∷ [])
 as-read e = ap (λ (v : ℤ). signed v ++ (space ∷ [])) e
 
-cast-put-number : tie.Need-cast-put-number
-cast-put-number c = search needs
-
 put-number-requires : tie.Need-put-number-requires
 put-number-requires c κs = let s = c .before .before .before in kind-room (s .args .out .now) (s .args .at) (s .args .what) (fitting s) (s .pre)
-
-cast-put-number-2 : tie.Need-cast-put-number-2
-cast-put-number-2 c = search needs
 
 put-number-requires-2 : tie.Need-put-number-requires-2
 put-number-requires-2 c κs =
@@ -56,9 +51,6 @@ put-signed-requires-2 c κs =
     let s = p1 .before .before .before .before in
     rw (same-z c) (z-room (s .args .out .now) (s .args .at) (s .args .what) (fitting s) (s .pre) (p1 .put-number .ensures) (p2 .put-number2 .ensures) (wrote-as (as-read (same-x (p3 .before))) (p3 .put-signed .ensures)))
 
-cast-put-number-3 : tie.Need-cast-put-number-3
-cast-put-number-3 c = search needs
-
 put-number-requires-3 : tie.Need-put-number-requires-3
 put-number-requires-3 c κs =
     let p4 = c .before .before .before .before in
@@ -68,9 +60,6 @@ put-number-requires-3 c κs =
     let s = p1 .before .before .before .before in
     value-room (s .args .out .now) (s .args .at) (s .args .what) (fitting s) (s .pre) (p1 .put-number .ensures) (p2 .put-number2 .ensures) (wrote-as (as-read (same-x (p3 .before))) (p3 .put-signed .ensures))
     (wrote-as (as-read (same-z (p4 .before))) (p4 .put-signed2 .ensures))
-
-same-length : tie.Need-same-length
-same-length c = search needs
 
 returns : tie.Need-returns
 returns c =
@@ -87,13 +76,13 @@ pub put-record-spec : {M : Type 1} → statement M
 put-record-spec =
     tie.close
     (tie.spec
-    cast-put-number
+    (λ c. search needs)
     put-number-requires
-    cast-put-number-2
+    (λ c. search needs)
     put-number-requires-2
     put-signed-requires
     put-signed-requires-2
-    cast-put-number-3
+    (λ c. search needs)
     put-number-requires-3
-    same-length
+    (λ c. search needs)
     returns)

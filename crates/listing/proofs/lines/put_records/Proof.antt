@@ -6,10 +6,10 @@ use borrow.Author.Needs.{needs}
 use lib.ListN.{length}
 use Rattle.moves.specs.Form.{recordStart, recordSize}
 use Rattle.moves.specs.Reading.{recordsIn}
+use Rattle.decimal.proofs.Writing.{Going, kept}
 use Rattle.listing.specs.Listing.{recordLines, longestRecordLine}
 use Rattle.listing.proofs.Made.{records-begin, record-next, records-made}
 use Rattle.listing.proofs.Reading.{held}
-use Rattle.listing.proofs.Writing.{Going, kept}
 use Rattle.listing.proofs.lines.put_records.Statement.{statement}
 use Rattle.listing.proofs.lines.put_records.Tie as tie
 
@@ -48,12 +48,6 @@ record-in-requires c κs = let l = lies (c .before) in search needs
 put-record-requires : tie.Need-put-record-requires Inv-loop μ-loop
 put-record-requires c κs = let l = c .before .before .before .before in omega (arith, kept (l .loop .inv .2))
 
-add-k : tie.Need-add-k Inv-loop μ-loop
-add-k c = search needs
-
-loop-less : tie.Need-loop-less Inv-loop μ-loop
-loop-less c = search needs
-
 loop-again : tie.Need-loop-again Inv-loop μ-loop
 loop-again c =
     let p = c .before .before in
@@ -86,8 +80,8 @@ put-records-spec =
     part-record-in-end
     record-in-requires
     put-record-requires
-    add-k
-    loop-less
+    (λ c. search needs)
+    (λ c. search needs)
     loop-again
     same-length
     returns)

@@ -10,30 +10,6 @@ use Rattle.moves.specs.Reading.{recordIn}
 use Rattle.listing.proofs.record.record_in.Statement.{statement}
 use Rattle.listing.proofs.record.record_in.Tie as tie
 
-four-at-requires : tie.Need-four-at-requires
-four-at-requires c κs = search needs
-
-four-at-requires-2 : tie.Need-four-at-requires-2
-four-at-requires-2 c κs = search needs
-
-four-at-requires-3 : tie.Need-four-at-requires-3
-four-at-requires-3 c κs = search needs
-
-shared-slice-read-t6 : tie.Need-shared-slice-read-t6
-shared-slice-read-t6 c = search needs
-
-shared-slice-read-t8 : tie.Need-shared-slice-read-t8
-shared-slice-read-t8 c = search needs
-
-i32-of-bytes-requires : tie.Need-i32-of-bytes-requires
-i32-of-bytes-requires c κs = search needs
-
-i32-of-bytes-requires-2 : tie.Need-i32-of-bytes-requires-2
-i32-of-bytes-requires-2 c κs = search needs
-
-u32-of-bytes-requires : tie.Need-u32-of-bytes-requires
-u32-of-bytes-requires c κs = search needs
-
 returns : tie.Need-returns
 unfolding recordIn
 returns c =
@@ -54,12 +30,12 @@ pub record-in-spec : {M : Type 1} → statement M
 record-in-spec =
     tie.close
     (tie.spec
-    four-at-requires
-    four-at-requires-2
-    four-at-requires-3
-    shared-slice-read-t6
-    shared-slice-read-t8
-    i32-of-bytes-requires
-    i32-of-bytes-requires-2
-    u32-of-bytes-requires
+    (λ c κs. search needs)
+    (λ c κs. search needs)
+    (λ c κs. search needs)
+    (λ c. search needs)
+    (λ c. search needs)
+    (λ c κs. search needs)
+    (λ c κs. search needs)
+    (λ c κs. search needs)
     returns)

@@ -8,33 +8,6 @@ use Rattle.moves.proofs.Writing.{header-laid}
 use Rattle.moves.proofs.list.put_header.Statement.{statement}
 use Rattle.moves.proofs.list.put_header.Tie as tie
 
-bytes-of-u16-requires : tie.Need-bytes-of-u16-requires
-bytes-of-u16-requires c κs = search needs
-
-bytes-of-u16-requires-2 : tie.Need-bytes-of-u16-requires-2
-bytes-of-u16-requires-2 c κs = search needs
-
-array-read-t11 : tie.Need-array-read-t11
-array-read-t11 c = search needs
-
-put-four-requires : tie.Need-put-four-requires
-put-four-requires c κs = search needs
-
-array-read-t11-2 : tie.Need-array-read-t11-2
-array-read-t11-2 c = search needs
-
-array-read-t19 : tie.Need-array-read-t19
-array-read-t19 c = search needs
-
-array-read-t22 : tie.Need-array-read-t22
-array-read-t22 c = search needs
-
-put-four-requires-2 : tie.Need-put-four-requires-2
-put-four-requires-2 c κs = search needs
-
-same-length : tie.Need-same-length
-same-length c = search needs
-
 returns : tie.Need-returns
 returns c =
     let p2 = c .before .before in
@@ -52,13 +25,13 @@ pub put-header-spec : {M : Type 1} → statement M
 put-header-spec =
     tie.close
     (tie.spec
-    bytes-of-u16-requires
-    bytes-of-u16-requires-2
-    array-read-t11
-    put-four-requires
-    array-read-t11-2
-    array-read-t19
-    array-read-t22
-    put-four-requires-2
-    same-length
+    (λ c κs. search needs)
+    (λ c κs. search needs)
+    (λ c. search needs)
+    (λ c κs. search needs)
+    (λ c. search needs)
+    (λ c. search needs)
+    (λ c. search needs)
+    (λ c κs. search needs)
+    (λ c. search needs)
     returns)

@@ -7,10 +7,11 @@ use Prim.Native.Nat.{ℕ, suc, _+_, _-_, _<_, _≤_}
 use lib.ListN.{length, getD, set}
 use Rattle.alarms.specs.Numbers.{wordRules}
 use Rattle.tape.specs.Lines.{lines}
-use Rattle.block.specs.declared.rules.Judged.{Judged}
+use Rattle.rules.specs.declared.judge.Judged.{Judged}
 use Rattle.block.specs.declared.words.Head.{Head}
 use Rattle.block.specs.declared.words.Head.the-variants.{Blank, ProgramLine, BlockLine, Other}
-use Rattle.block.proofs.Heads.{HeadIn, judged-in}
+use Rattle.block.proofs.Heads.{HeadIn}
+use Rattle.rules.proofs.Heads.{judged-in}
 use Rattle.reading.specs.declared.read.Read.the-variants.{Alarm}
 use Rattle.reading.specs.Reading.{headAlarm, noted, endsWith, readLines}
 use Rattle.reading.proofs.Going.{Going, whole, starts, at-end, refused-itself, refused, ended, onward, program-above, program-repeated, program-new, block-repeated, block-many, block-new, past-blank, past-program, past-block, blank-none, other-start, blank-on, program-on, block-ends}
@@ -71,17 +72,11 @@ part-judge-line-start c = c .line-at .ensures .1 .begins
 part-judge-line-end : tie.Need-part-judge-line-end Inv-loop μ-loop
 part-judge-line-end c = c .line-at .ensures .1 .text
 
-judge-line-requires : tie.Need-judge-line-requires Inv-loop μ-loop
-judge-line-requires c κs = search needs
-
 returns-2 : tie.Need-returns-2 Inv-loop μ-loop
 returns-2 c =
     let k = c .before in
     let m = k .before .before in
     sym (refused-itself (m .before .before .loop .inv) (m .before .if1 .left) (m .line-at .result) (m .line-at .ensures .0) (k .judge-line .result) (k .judge-line .ensures) (c .if2 .taken))
-
-enum-told : tie.Need-enum-told Inv-loop μ-loop
-enum-told c = search needs
 
 loop-less : tie.Need-loop-less Inv-loop μ-loop
 loop-less c = let e = c .before .before in omega (arith, further e, within e)
@@ -93,17 +88,11 @@ loop-again c =
     past-blank (l .loop .inv) (e .before .before .before .line-at .result .after) (further e) (within e)
     (onward-as e Blank (c .enum-told .given .1) (blank-none (l .loop .inv .history) (e .before .judge-line .result .broken)) (blank-on (e .before .judge-line .result .ends)))
 
-enum-told-2 : tie.Need-enum-told-2 Inv-loop μ-loop
-enum-told-2 c = search needs
-
 returns-3 : tie.Need-returns-3 Inv-loop μ-loop
 returns-3 c =
     let e = c .before .before in
     let l = e .before .before .before .before .before in
     refused-as e Other (c .enum-told2 .given .1) 5 (other-start (l .loop .inv .history) (e .before .judge-line .result .broken))
-
-enum-known-head : tie.Need-enum-known-head Inv-loop μ-loop
-enum-known-head c = search needs
 
 -- ---- a program line
 -- what the table shows at the number, which the code has as an index
@@ -118,9 +107,6 @@ returns-4 c =
     let e = h .before .before in
     let g = e .before .before .before .before .before .loop .inv in
     refused-as e (ProgramLine (h .head .given .0 .0)) (h .head .given .1) 5 (program-above g (h .head .given .0 .0) (e .before .judge-line .result .broken) (c .if3 .taken))
-
-wide-requires : tie.Need-wide-requires Inv-loop μ-loop
-wide-requires c κs = search needs
 
 array-read-if4 : tie.Need-array-read-if4 Inv-loop μ-loop
 array-read-if4 c = omega arith
@@ -183,12 +169,6 @@ module _ (w : tie.After-wide2 Inv-loop μ-loop) where
   mark-of : (P : ℕ → Type 0) → P (getD (w .before .before .before .before .before .before .before .before .before .loop .blocks) (w .wide2 .result) 0)
       → P (getD (w .before .before .before .before .before .before .before .before .before .loop .blocks) (w .before .before .head2 .given .0 .0) 0)
   mark-of P e = subst (λ (m : ℕ). P (getD (w .before .before .before .before .before .before .before .before .before .loop .blocks) m 0)) (w .wide2 .ensures) e
-
-enum-known-head-2 : tie.Need-enum-known-head-2 Inv-loop μ-loop
-enum-known-head-2 c = search needs
-
-wide-requires-2 : tie.Need-wide-requires-2 Inv-loop μ-loop
-wide-requires-2 c κs = search needs
 
 mul-if6 : tie.Need-mul-if6 Inv-loop μ-loop
 mul-if6 c = omega (arith, index c)
@@ -285,16 +265,16 @@ read-lines-spec =
     sub-judge-line
     part-judge-line-start
     part-judge-line-end
-    judge-line-requires
+    (λ c κs. search needs)
     returns-2
-    enum-told
+    (λ c. search needs)
     loop-less
     loop-again
-    enum-told-2
+    (λ c. search needs)
     returns-3
-    enum-known-head
+    (λ c. search needs)
     returns-4
-    wide-requires
+    (λ c κs. search needs)
     array-read-if4
     returns-5
     returns-6
@@ -302,8 +282,8 @@ read-lines-spec =
     add-mark-2
     loop-less-2
     loop-again-2
-    enum-known-head-2
-    wide-requires-2
+    (λ c. search needs)
+    (λ c κs. search needs)
     mul-if6
     array-read-if6
     returns-7

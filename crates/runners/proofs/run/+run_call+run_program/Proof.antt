@@ -9,7 +9,8 @@ use borrow.Fn.Kinds.{In}
 use borrow.Fn.PlainCycle.{Measures, is, falls, and}
 use Rattle.tape.specs.declared.line.Line.{Line}
 use Rattle.tape.proofs.line.line_at.Reads as line-at-reads
-use Rattle.steps.specs.Steps.{taskOf, Ready}
+use Rattle.steps.specs.Steps.{taskOf}
+use Rattle.steps.specs.Meets.{Ready}
 use Rattle.steps.proofs.step.take_step.Reads as take-step-reads
 use Rattle.runners.specs.Runs.{blocksInAll}
 use Rattle.runners.proofs.Going
@@ -47,7 +48,7 @@ abbrev run-call-Inv-loop : run-call-lts.InvT-loop
 run-call-Inv-loop tape table set first buf₀ program calls times now₀ n₀ buf now n =
     Going.Repeating (taskOf tape table set first (length buf₀)) program calls times buf₀ now₀ buf now n
     × Ready (taskOf tape table set first (length buf₀)) (length buf₀)
-    × (now₀ .left ≤ blocksInAll)
+    × (now₀ .«blocks_left» ≤ blocksInAll)
     × (program ≤ length tape)
     × (calls ≡ 0 → ⊥)
 
@@ -58,11 +59,11 @@ abbrev run-program-Inv-loop : run-program-lts.InvT-loop
 run-program-Inv-loop tape table set first buf₀ program calls now₀ at₀ buf now at =
     Going.Going (taskOf tape table set first (length buf₀)) program calls buf₀ now₀ buf now at
     × Ready (taskOf tape table set first (length buf₀)) (length buf₀)
-    × (now₀ .left ≤ blocksInAll)
+    × (now₀ .«blocks_left» ≤ blocksInAll)
     × (program ≤ length tape)
 
 abbrev run-program-μ-loop : run-program-lts.MeasureT-loop
-run-program-μ-loop tape table set first buf₀ program calls now₀ at₀ buf now at = now .left
+run-program-μ-loop tape table set first buf₀ program calls now₀ at₀ buf now at = now .«blocks_left»
 
 pub +run-call+run-program-spec : {M : Type 1} → statement M
 +run-call+run-program-spec = close μ-run-call μ-run-program (λ t. run-call-lts.spec (
@@ -76,16 +77,16 @@ pub +run-call+run-program-spec : {M : Type 1} → statement M
     -- returns
     (λ c. let s = c .before .before .before in
     let a = s .args in
-    let n = s .pre .1 .0 in
+    let n = s .pre .1 in
     Going.nothing (a .tape .now) (a .table .now) (a .set) (a .first) (a .buf .now) (n .ready .header)
     (Going.none-left (a .tape .now) (a .table .now) (a .set) (a .first) (a .buf .now) (n .ready .header) (a .program) (a .calls) (a .times) (a .run) (c .if1 .taken)) (n .fit))
     -- loop-holds
     (λ c. let s = c .before .before .before in
     let a = s .args in
-    let n = s .pre .1 .0 in (
+    let n = s .pre .1 in (
       Going.first-time (a .tape .now) (a .table .now) (a .set) (a .first) (a .buf .now) (n .ready .header) (a .program) (a .calls) (a .times) (a .run) (n .fit) (c .if1 .left),
       n .ready,
-      s .pre .1 .1,
+      n .few,
       n .line,
       c .if1 .left,
     ))
@@ -96,7 +97,7 @@ pub +run-call+run-program-spec : {M : Type 1} → statement M
     let s = c .before .before .before .before .before .before in
     let a = s .args in (
       omega (arith, s .pre .0, i .4),
-      (Going.run-needs (a .tape .now) (a .table .now) (a .set) (a .first) (a .buf .now) (i .1 .header) (a .program) (a .calls) (a .times) (a .run) (i .0) (c .before .loop-test .taken) (i .3) (i .1), omega (arith, i .0 .took .left, i .2)),
+      Going.run-begins (a .tape .now) (a .table .now) (a .set) (a .first) (a .buf .now) (i .1 .header) (a .program) (a .calls) (a .times) (a .run) (i .0) (c .before .loop-test .taken) (i .3) (i .1) (i .2),
     ))
     -- enum-told
     (λ c. search needs)
@@ -138,15 +139,15 @@ pub +run-call+run-program-spec : {M : Type 1} → statement M
     run-program-Inv-loop
     run-program-μ-loop
     -- line-at-requires
-    (λ c κs. c .before .before .pre .1 .0 .line)
+    (λ c κs. c .before .before .pre .1 .line)
     -- loop-holds
     (λ c. let s = c .before .before .before in
     let a = s .args in
-    let n = s .pre .1 .0 in
+    let n = s .pre .1 in
     let e = ap (λ (x : Line). x .after) (c .line-at .ensures .0) in (
-      Going.start-at (a .tape .now) (a .table .now) (a .set) (a .first) (a .buf .now) (n .ready .header) (a .program) (a .calls) (a .run) (n .fit) (s .pre .1 .1) e (c .line-at .ensures .1 .ends),
+      Going.start-at (a .tape .now) (a .table .now) (a .set) (a .first) (a .buf .now) (n .ready .header) (a .program) (a .calls) (a .run) (n .fit) (n .few) e (c .line-at .ensures .1 .ends),
       n .ready,
-      s .pre .1 .1,
+      n .few,
       n .line,
     ))
     -- take-step-requires
@@ -165,21 +166,21 @@ pub +run-call+run-program-spec : {M : Type 1} → statement M
     let i = k .before .before .loop .inv in
     let a = k .before .before .before .before .before .before .args in
     (Going.next (a .tape .now) (a .table .now) (a .set) (a .first) (a .buf .now) (i .1 .header) (a .program) (a .calls) (a .run) (i .0) (k .take-step .ensures) (c .enum-told .given .1), i .1, i .2, i .3))
-    -- enum-known-what, of a jump
+    -- enum-known-onward, of a jump
     (λ c. search needs)
     -- loop-less, of a jump
     (λ c. let k = c .before .before .before .before .before .before in
     let i = k .before .before .loop .inv in
     let a = k .before .before .before .before .before .before .args in
     let w = c .before in
-    Going.less-jump (a .tape .now) (a .table .now) (a .set) (a .first) (a .buf .now) (i .1 .header) (a .program) (a .calls) (a .run) (i .0) (k .take-step .ensures) (w .what .given .0 .0) (w .what .given .1))
+    Going.less-jump (a .tape .now) (a .table .now) (a .set) (a .first) (a .buf .now) (i .1 .header) (a .program) (a .calls) (a .run) (i .0) (k .take-step .ensures) (w .onward .given .0 .0) (w .onward .given .1))
     -- loop-again, of a jump
     (λ c. let k = c .before .before .before .before .before .before in
     let i = k .before .before .loop .inv in
     let a = k .before .before .before .before .before .before .args in
     let w = c .before in
-    (Going.jump (a .tape .now) (a .table .now) (a .set) (a .first) (a .buf .now) (i .1 .header) (a .program) (a .calls) (a .run) (i .0) (k .take-step .ensures) (w .what .given .0 .0) (w .what .given .1), i .1, i .2, i .3))
-    -- enum-known-what, of a call
+    (Going.jump (a .tape .now) (a .table .now) (a .set) (a .first) (a .buf .now) (i .1 .header) (a .program) (a .calls) (a .run) (i .0) (k .take-step .ensures) (w .onward .given .0 .0) (w .onward .given .1), i .1, i .2, i .3))
+    -- enum-known-onward, of a call
     (λ c. search needs)
     -- run-call-requires
     (λ c κs. let k = c .before .before .before .before .before .before .before in
@@ -188,7 +189,7 @@ pub +run-call+run-program-spec : {M : Type 1} → statement M
     let w = c .before .before in
     let s = k .before .before .before .before .before .before in (
       omega (arith, s .pre .0),
-      (Going.call-needs (a .tape .now) (a .table .now) (a .set) (a .first) (a .buf .now) (i .1 .header) (a .program) (a .calls) (a .run) (i .0) (k .take-step .ensures) (w .what2 .given .0 .0) (w .what2 .given .0 .1 .0) (w .what2 .given .1) (i .1), omega (arith, Going.less-call (a .tape .now) (a .table .now) (a .set) (a .first) (a .buf .now) (i .1 .header) (a .program) (a .calls) (a .run) (i .0) (k .take-step .ensures) (w .what2 .given .0 .0) (w .what2 .given .0 .1 .0) (w .what2 .given .1), i .0 .took .left, i .2)),
+      Going.call-begins (a .tape .now) (a .table .now) (a .set) (a .first) (a .buf .now) (i .1 .header) (a .program) (a .calls) (a .run) (i .0) (k .take-step .ensures) (w .onward2 .given .0 .0) (w .onward2 .given .0 .1 .0) (w .onward2 .given .1) (i .1) (i .2),
     ))
     -- enum-told-2
     (λ c. search needs)
@@ -198,28 +199,28 @@ pub +run-call+run-program-spec : {M : Type 1} → statement M
     let a = k .before .before .before .before .before .before .args in
     let r = c .before .before .before .before .before in
     let w = r .before .before .before in
-    Going.call-left (a .tape .now) (a .table .now) (a .set) (a .first) (a .buf .now) (i .1 .header) (a .program) (a .calls) (a .run) (i .0) (k .take-step .ensures) (w .what2 .given .0 .0) (w .what2 .given .0 .1 .0) (w .what2 .given .1) (r .run-call .ensures))
+    Going.call-left (a .tape .now) (a .table .now) (a .set) (a .first) (a .buf .now) (i .1 .header) (a .program) (a .calls) (a .run) (i .0) (k .take-step .ensures) (w .onward2 .given .0 .0) (w .onward2 .given .0 .1 .0) (w .onward2 .given .1) (r .run-call .ensures))
     -- loop-again-3
     (λ c. let k = c .before .before .before .before .before .before .before .before .before .before .before .before .before in
     let i = k .before .before .loop .inv in
     let a = k .before .before .before .before .before .before .args in
     let r = c .before .before .before .before .before in
     let w = r .before .before .before in
-    (Going.call-returned (a .tape .now) (a .table .now) (a .set) (a .first) (a .buf .now) (i .1 .header) (a .program) (a .calls) (a .run) (i .0) (k .take-step .ensures) (w .what2 .given .0 .0) (w .what2 .given .0 .1 .0) (w .what2 .given .1) (r .run-call .ensures) (c .enum-told2 .given .1), i .1, i .2, i .3))
+    (Going.call-returned (a .tape .now) (a .table .now) (a .set) (a .first) (a .buf .now) (i .1 .header) (a .program) (a .calls) (a .run) (i .0) (k .take-step .ensures) (w .onward2 .given .0 .0) (w .onward2 .given .0 .1 .0) (w .onward2 .given .1) (r .run-call .ensures) (c .enum-told2 .given .1), i .1, i .2, i .3))
     -- same-length
     (λ c. let k = c .before .before .before .before .before .before .before .before .before .before .before .before in
     let i = k .before .before .loop .inv in
     let a = k .before .before .before .before .before .before .args in
     let r = c .before .before .before .before in
     let w = r .before .before .before in
-    Going.call-size (a .tape .now) (a .table .now) (a .set) (a .first) (a .buf .now) (i .1 .header) (a .program) (a .calls) (a .run) (i .0) (k .take-step .ensures) (w .what2 .given .0 .0) (w .what2 .given .0 .1 .0) (w .what2 .given .1) (r .run-call .ensures))
+    Going.call-size (a .tape .now) (a .table .now) (a .set) (a .first) (a .buf .now) (i .1 .header) (a .program) (a .calls) (a .run) (i .0) (k .take-step .ensures) (w .onward2 .given .0 .0) (w .onward2 .given .0 .1 .0) (w .onward2 .given .1) (r .run-call .ensures))
     -- returns
     (λ c. let k = c .before .before .before .before .before .before .before .before .before .before .before .before in
     let i = k .before .before .loop .inv in
     let a = k .before .before .before .before .before .before .args in
     let r = c .before .before .before .before in
     let w = r .before .before .before in
-    Going.call-broke (a .tape .now) (a .table .now) (a .set) (a .first) (a .buf .now) (i .1 .header) (a .program) (a .calls) (a .run) (i .0) (k .take-step .ensures) (w .what2 .given .0 .0) (w .what2 .given .0 .1 .0) (w .what2 .given .1) (r .run-call .ensures) (c .match2 .keys2))
+    Going.call-broke (a .tape .now) (a .table .now) (a .set) (a .first) (a .buf .now) (i .1 .header) (a .program) (a .calls) (a .run) (i .0) (k .take-step .ensures) (w .onward2 .given .0 .0) (w .onward2 .given .0 .1 .0) (w .onward2 .given .1) (r .run-call .ensures) (c .match2 .keys2))
     -- enum-told-3
     (λ c. search needs)
     -- same-length-2
@@ -244,7 +245,7 @@ pub +run-call+run-program-spec : {M : Type 1} → statement M
     let i = k .before .before .loop .inv in
     let a = k .before .before .before .before .before .before .args in
     Going.ended (a .tape .now) (a .table .now) (a .set) (a .first) (a .buf .now) (i .1 .header) (a .program) (a .calls) (a .run) (i .0) (k .take-step .ensures) (c .enum-told4 .given .1))
-    -- enum-known-what, of an alarm
+    -- enum-known-onward, of an alarm
     (λ c. search needs)
     -- same-length-4
     (λ c. let k = c .before .before .before .before .before .before in
@@ -256,4 +257,4 @@ pub +run-call+run-program-spec : {M : Type 1} → statement M
     let i = k .before .before .loop .inv in
     let a = k .before .before .before .before .before .before .args in
     let w = c .before in
-    Going.stops (a .tape .now) (a .table .now) (a .set) (a .first) (a .buf .now) (i .1 .header) (a .program) (a .calls) (a .run) (i .0) (k .take-step .ensures) (w .what3 .given .0 .0) (w .what3 .given .0 .1 .0) (w .what3 .given .1))
+    Going.stops (a .tape .now) (a .table .now) (a .set) (a .first) (a .buf .now) (i .1 .header) (a .program) (a .calls) (a .run) (i .0) (k .take-step .ensures) (w .onward3 .given .0 .0) (w .onward3 .given .0 .1 .0) (w .onward3 .given .1))

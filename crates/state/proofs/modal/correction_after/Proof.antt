@@ -1,8 +1,8 @@
 -- `state::modal::correction_after` meets its contract.
 use mathlib.Core.Path.{ap}
 use Prim.Native.Nat.{ℕ, _%_}
-use Rattle.block.specs.Words.{tSlot}
-use Rattle.state.specs.Modal.{correctionAfter, codeIn}
+use Rattle.block.specs.Slots.{tSlot, codeIn}
+use Rattle.state.specs.Modal.{correctionAfter}
 use Rattle.state.proofs.Settling.{given, stays}
 use borrow.Author.Needs.{needs}
 use Rattle.state.proofs.modal.correction_after.Statement.{statement}

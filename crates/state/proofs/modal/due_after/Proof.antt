@@ -5,14 +5,8 @@ use borrow.Author.Needs.{needs}
 use Rattle.state.proofs.modal.due_after.Statement.{statement}
 use Rattle.state.proofs.modal.due_after.Tie as tie
 
-add-has : tie.Need-add-has
-add-has c = search needs
-
 has-requires : tie.Need-has-requires
 has-requires c κs = search needs
-
-add-has-2 : tie.Need-add-has-2
-add-has-2 c = search needs
 
 has-requires-2 : tie.Need-has-requires-2
 has-requires-2 c κs = search needs
@@ -26,4 +20,4 @@ returns c = λ i. c .before .before .before .args .before || (c .has3 .ensures i
 
 pub due-after-spec : {M : Type 1} → statement M
 due-after-spec =
-    tie.close (tie.spec add-has has-requires add-has-2 has-requires-2 has-requires-3 returns)
+    tie.close (tie.spec has-requires has-requires-2 has-requires-3 returns)

@@ -1,6 +1,6 @@
 -- `state::modal::feed_after` meets its contract.
-use Rattle.block.specs.Words.{fSlot}
-use Rattle.state.specs.Modal.{feedAfter, codeIn}
+use Rattle.block.specs.Slots.{fSlot, codeIn}
+use Rattle.state.specs.Modal.{feedAfter}
 use Rattle.state.proofs.Settling.{given, stays}
 use borrow.Author.Needs.{needs}
 use Rattle.state.proofs.modal.feed_after.Statement.{statement}

@@ -2,50 +2,13 @@
 use mathlib.Core.Path.{_≡_, ap, _∙_}
 use mir.Syntax.{w32}
 use mir.Val.{toZ, ofZ}
-use Rattle.state.specs.declared.modal.Kept.{Kept}
-use Rattle.state.specs.Modal.{settled, keep, blockMotion}
+use Rattle.acts.specs.declared.acting.Kept.{Kept}
+use Rattle.codes.specs.declared.meaning.Code.{Code}
+use Rattle.acts.specs.Acting.{keep, shiftBy, cuttingBy, revolutionBy}
+use Rattle.state.specs.Modal.{settled}
 use borrow.Author.Needs.{needs}
 use Rattle.state.proofs.modal.settle.Statement.{statement}
 use Rattle.state.proofs.modal.settle.Tie as tie
-
-block-motion-requires : tie.Need-block-motion-requires
-block-motion-requires c κs = search needs
-
-keep-of-requires : tie.Need-keep-of-requires
-keep-of-requires c κs = search needs
-
-add-flag-after : tie.Need-add-flag-after
-add-flag-after c = search needs
-
-flag-after-requires : tie.Need-flag-after-requires
-flag-after-requires c κs = search needs
-
-add-flag-after-2 : tie.Need-add-flag-after-2
-add-flag-after-2 c = search needs
-
-flag-after-requires-2 : tie.Need-flag-after-requires-2
-flag-after-requires-2 c κs = search needs
-
-add-shift-after : tie.Need-add-shift-after
-add-shift-after c = search needs
-
-shift-after-requires : tie.Need-shift-after-requires
-shift-after-requires c κs = search needs
-
-add-shift-after-2 : tie.Need-add-shift-after-2
-add-shift-after-2 c = search needs
-
-shift-after-requires-2 : tie.Need-shift-after-requires-2
-shift-after-requires-2 c κs = search needs
-
-correction-after-requires : tie.Need-correction-after-requires
-correction-after-requires c κs = search needs
-
-feed-after-requires : tie.Need-feed-after-requires
-feed-after-requires c κs = search needs
-
-due-after-requires : tie.Need-due-after-requires
-due-after-requires c κs = search needs
 
 -- the axes, as the machine reads them back from their bits
 x : (c : tie.Start) → toZ w32 (ofZ w32 (c .args .s .x)) ≡ c .args .s .x
@@ -54,44 +17,49 @@ x c = search needs
 z : (c : tie.Start) → toZ w32 (ofZ w32 (c .args .s .z)) ≡ c .args .s .z
 z c = search needs
 
--- what is kept of the block's motion
-motion : (c : tie.After-keep-of) → c .keep-of .result ≡ keep (blockMotion (c .before .before .args .s .motion) (c .before .before .args .b)) (c .before .before .args .s .motion)
-motion c = c .keep-of .ensures ∙ ap (λ (now : Kept). keep now (c .before .before .args .s .motion)) (c .before .block-motion .ensures)
-
 returns : tie.Need-returns
 unfolding settled
 returns c =
-    let shifts = c .before .before .before .before in
-    let flags = shifts .before .before in
-    let kept = flags .before .before in
+    let f = c .before .before in
+    let s5 = f .before .before in
+    let s3 = s5 .before in
+    let r = s3 .before in
+    let u = r .before in
+    let k = u .before in
+    let g5 = k .before in
+    let g3 = g5 .before in
+    let gf = g3 .before in
+    let gs = gf .before in
+    let m = gs .before in
+    let a = m .before .args .s in
     λ i. record {
-      motion = motion kept i;
-      g96 = flags .before .flag-after .ensures i;
-      g95 = flags .flag-after2 .ensures i;
-      first = shifts .before .shift-after .ensures i;
-      second = shifts .shift-after2 .ensures i;
-      correction = c .before .before .before .correction-after .ensures i;
-      f = c .before .before .feed-after .ensures i;
-      due = c .before .due-after .ensures i;
-      x = x (kept .before .before) i;
-      z = z (kept .before .before) i;
+      motion = (k .keep-of .ensures ∙ ap (λ (now : Kept). keep now (a .motion)) (m .block-motion .ensures)) i;
+      g96 = (u .cutting-by .ensures ∙ ap (λ (n : Code). cuttingBy n (a .g96)) (gs .g-in .ensures)) i;
+      g95 = (r .revolution-by .ensures ∙ ap (λ (n : Code). revolutionBy n (a .g95)) (gf .g-in2 .ensures)) i;
+      «shift_group3» = (s3 .shift-by .ensures ∙ ap (λ (n : Code). shiftBy n (a .«shift_group3»)) (g3 .g-in3 .ensures)) i;
+      «shift_group5» = (s5 .shift-by2 .ensures ∙ ap (λ (n : Code). shiftBy n (a .«shift_group5»)) (g5 .g-in4 .ensures)) i;
+      correction = f .before .correction-after .ensures i;
+      f = f .feed-after .ensures i;
+      «rapid_due» = c .before .due-after .ensures i;
+      x = x (m .before) i;
+      z = z (m .before) i;
     }
 
 pub settle-spec : {M : Type 1} → statement M
 settle-spec =
     tie.close
     (tie.spec
-    block-motion-requires
-    keep-of-requires
-    add-flag-after
-    flag-after-requires
-    add-flag-after-2
-    flag-after-requires-2
-    add-shift-after
-    shift-after-requires
-    add-shift-after-2
-    shift-after-requires-2
-    correction-after-requires
-    feed-after-requires
-    due-after-requires
+    (λ c κs. search needs)
+    (λ c κs. search needs)
+    (λ c κs. search needs)
+    (λ c κs. search needs)
+    (λ c κs. search needs)
+    (λ c κs. search needs)
+    (λ c κs. search needs)
+    (λ c κs. search needs)
+    (λ c κs. search needs)
+    (λ c κs. search needs)
+    (λ c κs. search needs)
+    (λ c κs. search needs)
+    (λ c κs. search needs)
     returns)

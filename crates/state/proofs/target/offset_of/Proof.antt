@@ -11,21 +11,6 @@ use Rattle.state.proofs.Sending.{PairIn, pair-in, correction-le, two-ne
 use Rattle.state.proofs.target.offset_of.Statement.{statement}
 use Rattle.state.proofs.target.offset_of.Tie as tie
 
-wide-requires : tie.Need-wide-requires
-wide-requires c κs = search needs
-
-pair-of-requires : tie.Need-pair-of-requires
-pair-of-requires c κs = search needs
-
-wide-requires-2 : tie.Need-wide-requires-2
-wide-requires-2 c κs = search needs
-
-pair-of-requires-2 : tie.Need-pair-of-requires-2
-pair-of-requires-2 c κs = search needs
-
-correction-pair-requires : tie.Need-correction-pair-requires
-correction-pair-requires c κs = search needs
-
 pair-of-requires-3 : tie.Need-pair-of-requires-3
 pair-of-requires-3 c κs =
     let s = c .before .before .before .before .before in
@@ -33,8 +18,8 @@ pair-of-requires-3 c κs =
 
 -- the three pairs, and that they are numbers of the table
 record Three (table : List ℤ) (s : State) (a b t : Pair) : Type 0 where
-  first : a ≡ pairOf table (s .first)
-  second : b ≡ pairOf table (s .second)
+  first : a ≡ pairOf table (s .«shift_group3»)
+  second : b ≡ pairOf table (s .«shift_group5»)
   tool : t ≡ pairOf table (correctionPair (s .correction))
   first-in : PairIn a
   second-in : PairIn b
@@ -52,8 +37,8 @@ three c =
       first = f;
       second = g;
       tool = h;
-      first-in = subst PairIn (sym f) (pair-in table (s .pre .0) (s .args .s .first));
-      second-in = subst PairIn (sym g) (pair-in table (s .pre .0) (s .args .s .second));
+      first-in = subst PairIn (sym f) (pair-in table (s .pre .0) (s .args .s .«shift_group3»));
+      second-in = subst PairIn (sym g) (pair-in table (s .pre .0) (s .args .s .«shift_group5»));
       tool-in = subst PairIn (sym h) (pair-in table (s .pre .0) (correctionPair (s .args .s .correction)));
     }
 
@@ -84,11 +69,11 @@ pub offset-of-spec : {M : Type 1} → statement M
 offset-of-spec =
     tie.close
     (tie.spec
-    wide-requires
-    pair-of-requires
-    wide-requires-2
-    pair-of-requires-2
-    correction-pair-requires
+    (λ c κs. search needs)
+    (λ c κs. search needs)
+    (λ c κs. search needs)
+    (λ c κs. search needs)
+    (λ c κs. search needs)
     pair-of-requires-3
     add-x
     add-x-2

@@ -11,27 +11,6 @@ returns : tie.Need-returns
 unfolding pairOf
 returns c = rw (c .if1 .taken)
 
-sub-at : tie.Need-sub-at
-sub-at c = search needs
-
-mul-at : tie.Need-mul-at
-mul-at c = search needs
-
-mul-t5 : tie.Need-mul-t5
-mul-t5 c = search needs
-
-shared-slice-copy-out-t7 : tie.Need-shared-slice-copy-out-t7
-shared-slice-copy-out-t7 c = search needs
-
-add-t8 : tie.Need-add-t8
-add-t8 c = search needs
-
-mul-t9 : tie.Need-mul-t9
-mul-t9 c = search needs
-
-shared-slice-copy-out-t11 : tie.Need-shared-slice-copy-out-t11
-shared-slice-copy-out-t11 c = search needs
-
 returns-2 : tie.Need-returns-2
 unfolding pairOf
 returns-2 c =
@@ -45,11 +24,11 @@ pair-of-spec =
     tie.close
     (tie.spec
     returns
-    sub-at
-    mul-at
-    mul-t5
-    shared-slice-copy-out-t7
-    add-t8
-    mul-t9
-    shared-slice-copy-out-t11
+    (λ c. search needs)
+    (λ c. search needs)
+    (λ c. search needs)
+    (λ c. search needs)
+    (λ c. search needs)
+    (λ c. search needs)
+    (λ c. search needs)
     returns-2)

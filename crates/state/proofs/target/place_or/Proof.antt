@@ -4,7 +4,7 @@ use mathlib.Core.Path.{ap, sym, _∙_}
 use mir.Syntax.{w32}
 use mir.Facts.{toZ-ofZ}
 use Rattle.whole.specs.declared.position.Placed.{Placed}
-use Rattle.state.specs.Target.{placeOr}
+use Rattle.state.specs.Known.{placeOr}
 use Rattle.state.proofs.target.place_or.Statement.{statement}
 use Rattle.state.proofs.target.place_or.Tie as tie
 

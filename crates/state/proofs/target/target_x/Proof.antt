@@ -1,26 +1,17 @@
 -- `state::target::target_x` meets its contract.
 use borrow.Author.Needs.{needs, sfits-of}
+use lib.IntN.{pos, _*ℤ_}
+use Rattle.block.specs.Slots.{xSlot, uSlot}
 use mathlib.Core.Path.{ap, sym, _∙_}
 use mir.Syntax.{w32}
 use mir.Val.{toZ, ofZ}
 use mir.Facts.{toZ-ofZ}
 use Rattle.whole.specs.declared.position.Placed.{Placed}
-use Rattle.state.specs.Target.{placeOr, targetX}
+use Rattle.state.specs.Known.{placeOr}
+use Rattle.state.specs.Target.{wordIn, targetX}
 use Rattle.state.proofs.Sending.{going-x, by-word, by-double, by-none}
 use Rattle.state.proofs.target.target_x.Statement.{statement}
 use Rattle.state.proofs.target.target_x.Tie as tie
-
-has-requires : tie.Need-has-requires
-has-requires c κs = search needs
-
-element-copy-out-from-word : tie.Need-element-copy-out-from-word
-element-copy-out-from-word c = search needs
-
-from-word-requires : tie.Need-from-word-requires
-from-word-requires c κs = search needs
-
-place-or-requires : tie.Need-place-or-requires
-place-or-requires c κs = search needs
 
 returns : tie.Need-returns
 unfolding targetX
@@ -31,19 +22,7 @@ returns c =
     toZ-ofZ (sfits-of {w = w32} (c .place-or .ok))
     ∙ c .place-or .ensures
     ∙ ap (λ (p : Placed). placeOr p (toZ w32 (ofZ w32 (a .s .x)))) (c .before .from-word .ensures)
-    ∙ by-word (a .t2) 0 (a .s .x) (a .offset) (going-x (a .s) (a .t2) (a .offset) (s .pre)) 2 (sym (h .has .ensures) ∙ c .before .before .before .if1 .taken)
-
-has-requires-2 : tie.Need-has-requires-2
-has-requires-2 c κs = search needs
-
-element-copy-out-moved-by-u : tie.Need-element-copy-out-moved-by-u
-element-copy-out-moved-by-u c = search needs
-
-moved-by-u-requires : tie.Need-moved-by-u-requires
-moved-by-u-requires c κs = search needs
-
-place-or-requires-2 : tie.Need-place-or-requires-2
-place-or-requires-2 c κs = search needs
+    ∙ by-word (a .t2) xSlot (a .s .x) (a .offset) (going-x (a .s) (a .t2) (a .offset) (s .pre)) (pos 2 *ℤ wordIn (a .t2) uSlot) (sym (h .has .ensures) ∙ c .before .before .before .if1 .taken)
 
 returns-2 : tie.Need-returns-2
 unfolding targetX
@@ -55,7 +34,7 @@ returns-2 c =
     toZ-ofZ (sfits-of {w = w32} (c .place-or2 .ok))
     ∙ c .place-or2 .ensures
     ∙ ap (λ (p : Placed). placeOr p (toZ w32 (ofZ w32 (a .s .x)))) (c .before .moved-by-u .ensures)
-    ∙ by-double (a .t2) 0 (a .s .x) (a .offset) (going-x (a .s) (a .t2) (a .offset) (s .pre)) (sym (h .has .ensures) ∙ t .before .if1 .left)
+    ∙ by-double (a .t2) xSlot (a .s .x) (a .offset) (going-x (a .s) (a .t2) (a .offset) (s .pre)) (sym (h .has .ensures) ∙ t .before .if1 .left)
     (sym (t .has2 .ensures) ∙ c .before .before .before .if2 .taken)
 
 returns-3 : tie.Need-returns-3
@@ -65,21 +44,21 @@ returns-3 c =
     let h = t .before .before in
     let s = h .before .before in
     let a = s .args in
-    by-none (a .t2) 0 (a .s .x) (a .offset) (going-x (a .s) (a .t2) (a .offset) (s .pre)) 2 (sym (h .has .ensures) ∙ t .before .if1 .left)
+    by-none (a .t2) xSlot (a .s .x) (a .offset) (going-x (a .s) (a .t2) (a .offset) (s .pre)) (pos 2 *ℤ wordIn (a .t2) uSlot) (sym (h .has .ensures) ∙ t .before .if1 .left)
     (sym (t .has2 .ensures) ∙ c .if2 .left)
 
 pub target-x-spec : {M : Type 1} → statement M
 target-x-spec =
     tie.close
     (tie.spec
-    has-requires
-    element-copy-out-from-word
-    from-word-requires
-    place-or-requires
+    (λ c κs. search needs)
+    (λ c. search needs)
+    (λ c κs. search needs)
+    (λ c κs. search needs)
     returns
-    has-requires-2
-    element-copy-out-moved-by-u
-    moved-by-u-requires
-    place-or-requires-2
+    (λ c κs. search needs)
+    (λ c. search needs)
+    (λ c κs. search needs)
+    (λ c κs. search needs)
     returns-2
     returns-3)

@@ -5,27 +5,9 @@ use Rattle.steps.specs.Steps.{alarmBy}
 use Rattle.steps.proofs.step.alarm_by.Statement.{statement}
 use Rattle.steps.proofs.step.alarm_by.Tie as tie
 
-enum-known-what : tie.Need-enum-known-what
-enum-known-what c = search needs
-
-enum-told : tie.Need-enum-told
-enum-told c = search needs
-
-enum-told-2 : tie.Need-enum-told-2
-enum-told-2 c = search needs
-
-enum-told-3 : tie.Need-enum-told-3
-enum-told-3 c = search needs
-
-enum-told-4 : tie.Need-enum-told-4
-enum-told-4 c = search needs
-
-enum-told-5 : tie.Need-enum-told-5
-enum-told-5 c = search needs
-
 returns : tie.Need-returns
 unfolding alarmBy
-returns c = ap alarmBy (sym (c .before .what .given .1))
+returns c = ap alarmBy (sym (c .before .onward .given .1))
 
 returns-2 : tie.Need-returns-2
 unfolding alarmBy
@@ -51,12 +33,12 @@ pub alarm-by-spec : {M : Type 1} → statement M
 alarm-by-spec =
     tie.close
     (tie.spec
-    enum-known-what
-    enum-told
-    enum-told-2
-    enum-told-3
-    enum-told-4
-    enum-told-5
+    (λ c. search needs)
+    (λ c. search needs)
+    (λ c. search needs)
+    (λ c. search needs)
+    (λ c. search needs)
+    (λ c. search needs)
     returns
     returns-2
     returns-3

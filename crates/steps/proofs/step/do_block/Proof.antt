@@ -9,54 +9,31 @@ use Rattle.moves.specs.Form.{recordStart, rowBytes}
 use Rattle.tape.specs.declared.line.Line.{Line}
 use Rattle.block.specs.Worded.{Worded}
 use Rattle.block.specs.declared.words.Block.{Block}
-use Rattle.machine.specs.Blocks.{recordsOf, didOf}
-use Rattle.steps.specs.Steps.{Task, taskOf, blockOn, whatBy, whatOf, alarmBy}
+use Rattle.machine.specs.Blocks.{blockRecords, outcomeOf}
+use Rattle.steps.specs.Steps.{Task, taskOf, blockOn, onwardBy, onwardOf, alarmBy}
 use Rattle.steps.proofs.Stepping.{words-are, worded-in, some-left, refused-asked, refused-block, went}
 use Rattle.steps.proofs.step.do_block.Statement.{statement}
 use Rattle.steps.proofs.step.do_block.Tie as tie
-
-line-at-requires : tie.Need-line-at-requires
-line-at-requires c κs = search needs
-
-sub-words-of : tie.Need-sub-words-of
-sub-words-of c = search needs
-
-part-words-of-start : tie.Need-part-words-of-start
-part-words-of-start c = search needs
-
-part-words-of-end : tie.Need-part-words-of-end
-part-words-of-end c = search needs
-
-words-of-requires : tie.Need-words-of-requires
-words-of-requires c κs = search needs
-
-what-of-requires : tie.Need-what-of-requires
-what-of-requires c κs = search needs
-
-alarm-by-requires : tie.Need-alarm-by-requires
-alarm-by-requires c κs = search needs
 
 -- the task of the run
 abbrev task : tie.Start → Task
 task s = let a = s .args in taskOf (now (a .tape)) (now (a .table)) (a .set) (a .first) (length (now (a .buf)))
 
 -- what the block asks of the runner
-asked : (c : tie.After-what-of) →
+asked : (c : tie.After-onward-of) →
     let s = c .before .before .before .before .before .before in
-    let a = s .args in
-    c .what-of .result ≡ whatOf (task s) (a .program) (a .calls) (a .at) (a .run)
+    c .onward-of .result ≡ onwardOf (task s) (s .args .frame) (s .args .run)
 asked c =
     let o = c .before in
     let l = o .before .before in
     let a = l .before .before .before .args in
-    c .what-of .ensures
-    ∙ ap (whatBy (now (a .tape)) (a .first) (a .set .lowest) (a .program) (a .calls) (a .at) (a .run .left)) (words-are (now (a .tape)) (a .at) (l .line-at .ensures .0) (o .words-of .ensures))
+    c .onward-of .ensures
+    ∙ ap (onwardBy (now (a .tape)) (a .set) (a .first) (a .frame) (a .run .«blocks_left»)) (words-are (now (a .tape)) (a .frame .at) (l .line-at .ensures .0) (o .words-of .ensures))
 
 -- and that this is no alarm
 fine : (c : tie.Else1) →
     let s = c .before .before .before .before .before .before .before .before in
-    let a = s .args in
-    alarmBy (whatOf (task s) (a .program) (a .calls) (a .at) (a .run)) ≡ 0
+    alarmBy (onwardOf (task s) (s .args .frame) (s .args .run)) ≡ 0
 fine c = sym (c .before .alarm-by .ensures ∙ ap alarmBy (asked (c .before .before))) ∙ c .if1 .left
 
 -- what the machine did, with the block's words as they are defined
@@ -64,7 +41,7 @@ done : (c : tie.After-run-block) →
     let s = c .before .before .before .before .before .before .before .before .before .before .before in
     let a = s .args in
     let t = task s in
-    c .run-block .result ≡ didOf (t .table) (t .settings) (a .run .state) (blockOn (t .tape) (a .at)) (t .room) (a .run .count)
+    c .run-block .result ≡ outcomeOf (t .table) (t .settings) (a .run .state) (blockOn (t .tape) (a .frame .at)) (t .room) (a .run .count)
 done c =
     let o = c .before .before .before .before .before .before in
     let l = o .before .before in
@@ -72,14 +49,14 @@ done c =
     let a = s .args in
     let t = task s in
     c .run-block .ensures .0
-    ∙ ap (λ (b : Block). didOf (t .table) (t .settings) (a .run .state) b (t .room) (a .run .count)) (words-are (t .tape) (a .at) (l .line-at .ensures .0) (o .words-of .ensures))
+    ∙ ap (λ (b : Block). outcomeOf (t .table) (t .settings) (a .run .state) b (t .room) (a .run .count)) (words-are (t .tape) (a .frame .at) (l .line-at .ensures .0) (o .words-of .ensures))
 
 written : (c : tie.After-run-block) →
     let s = c .before .before .before .before .before .before .before .before .before .before .before in
     let a = s .args in
     let t = task s in
     c .run-block .last .1 .1 .1 .1 .0
-    ≡ laid (now (a .buf)) (recordStart (a .run .count)) (rowBytes (recordsOf (t .table) (t .settings) (a .run .state) (blockOn (t .tape) (a .at)) (t .room - a .run .count)))
+    ≡ laid (now (a .buf)) (recordStart (a .run .count)) (rowBytes (blockRecords (t .table) (t .settings) (a .run .state) (blockOn (t .tape) (a .frame .at)) (t .room - a .run .count)))
 written c =
     let o = c .before .before .before .before .before .before in
     let l = o .before .before in
@@ -87,8 +64,8 @@ written c =
     let a = s .args in
     let t = task s in
     c .run-block .ensures .1
-    ∙ ap (λ (b : Block). laid (now (a .buf)) (recordStart (a .run .count)) (rowBytes (recordsOf (t .table) (t .settings) (a .run .state) b (t .room - a .run .count))))
-    (words-are (t .tape) (a .at) (l .line-at .ensures .0) (o .words-of .ensures))
+    ∙ ap (λ (b : Block). laid (now (a .buf)) (recordStart (a .run .count)) (rowBytes (blockRecords (t .table) (t .settings) (a .run .state) b (t .room - a .run .count))))
+    (words-are (t .tape) (a .frame .at) (l .line-at .ensures .0) (o .words-of .ensures))
 
 returns : tie.Need-returns
 returns c =
@@ -96,7 +73,7 @@ returns c =
     let l = k .before .before .before in
     let s = l .before .before .before in
     let a = s .args in
-    refused-asked (task s) (now (a .buf)) (a .program) (a .calls) (a .at) (a .run) (s .pre)
+    refused-asked (task s) (now (a .buf)) (a .frame) (a .run) (s .pre)
     (c .before .alarm-by .ensures ∙ ap alarmBy (asked k)) (c .if1 .taken) (ap (λ (x : Line). x .after) (l .line-at .ensures .0)) (l .line-at .ensures .1 .ends)
 
 run-block-requires : tie.Need-run-block-requires
@@ -106,60 +83,55 @@ run-block-requires c κs =
     let n = s .pre in
     (n .ready .table, n .ready .range, n .fit .sound, subst Worded (sym (o .words-of .ensures)) (worded-in _), n .ready .header, n .fit .count)
 
-stop-by-requires : tie.Need-stop-by-requires
-stop-by-requires c κs = search needs
-
-same-length : tie.Need-same-length
-same-length c = search needs
+sub-fewer : tie.Need-sub-fewer
+sub-fewer c =
+    let r = c .before .before .before .before .before .before in
+    let e = r .before .before .before in
+    let s = e .before .before .before .before .before .before .before .before in
+    let a = s .args in
+    some-left (now (a .tape)) (a .set) (a .first) (a .frame) (a .run .«blocks_left») (blockOn (now (a .tape)) (a .frame .at)) (fine e)
 
 returns-2 : tie.Need-returns-2
 returns-2 c =
-    let r = c .before .before .before .before in
+    let m = c .before in
+    let r = m .before .before .before .before in
     let e = r .before .before .before in
     let k = e .before .before in
     let l = k .before .before .before in
     let s = l .before .before .before in
     let a = s .args in
-    refused-block (task s) (now (a .buf)) (a .program) (a .calls) (a .at) (a .run) (s .pre) (fine e) (done r) (written r)
-    (c .before .stop-by .ensures) (c .if2 .taken) (ap (λ (x : Line). x .after) (l .line-at .ensures .0)) (l .line-at .ensures .1 .ends)
-
-sub-fewer : tie.Need-sub-fewer
-sub-fewer c =
-    let e = c .before .before .before .before .before .before .before .before in
-    let s = e .before .before .before .before .before .before .before .before in
-    let a = s .args in
-    some-left (now (a .tape)) (a .first) (a .set .lowest) (a .program) (a .calls) (a .at) (a .run .left) (blockOn (now (a .tape)) (a .at)) (fine e)
-
-same-length-2 : tie.Need-same-length-2
-same-length-2 c = search needs
+    refused-block (task s) (now (a .buf)) (a .frame) (a .run) (s .pre) (fine e) (sym (done r) ∙ m .outcome .given .1) (written r)
+    (ap (λ (x : Line). x .after) (l .line-at .ensures .0)) (l .line-at .ensures .1 .ends)
 
 returns-3 : tie.Need-returns-3
 returns-3 c =
-    let r = c .before .before .before .before .before in
+    let m = c .before .before in
+    let r = m .before .before .before .before in
     let e = r .before .before .before in
     let k = e .before .before in
     let l = k .before .before .before in
     let s = l .before .before .before in
     let a = s .args in
-    went (task s) (now (a .buf)) (a .program) (a .calls) (a .at) (a .run) (s .pre) (fine e) (done r) (written r)
-    (c .before .before .stop-by .ensures) (c .before .if2 .left) (ap (λ (x : Line). x .after) (l .line-at .ensures .0)) (l .line-at .ensures .1 .ends) (asked k) refl
+    went (task s) (now (a .buf)) (a .frame) (a .run) (s .pre) (fine e) (sym (done r) ∙ m .outcome2 .given .1) (written r)
+    (ap (λ (x : Line). x .after) (l .line-at .ensures .0)) (l .line-at .ensures .1 .ends) (asked k) refl
 
 pub do-block-spec : {M : Type 1} → statement M
 do-block-spec =
     tie.close
     (tie.spec
-    line-at-requires
-    sub-words-of
-    part-words-of-start
-    part-words-of-end
-    words-of-requires
-    what-of-requires
-    alarm-by-requires
+    (λ c κs. search needs)
+    (λ c. search needs)
+    (λ c. search needs)
+    (λ c. search needs)
+    (λ c κs. search needs)
+    (λ c κs. search needs)
+    (λ c κs. search needs)
     returns
     run-block-requires
-    stop-by-requires
-    same-length
-    returns-2
+    (λ c. search needs)
+    (λ c. search needs)
     sub-fewer
-    same-length-2
+    (λ c. search needs)
+    returns-2
+    (λ c. search needs)
     returns-3)

@@ -8,15 +8,6 @@ use Rattle.steps.proofs.Stepping.{found-at, found-needs, step-ended, st
 use Rattle.steps.proofs.step.take_step.Statement.{statement}
 use Rattle.steps.proofs.step.take_step.Tie as tie
 
-next-block-requires : tie.Need-next-block-requires
-next-block-requires c κs = search needs
-
-enum-told : tie.Need-enum-told
-enum-told c = search needs
-
-enum-known-found : tie.Need-enum-known-found
-enum-known-found c = search needs
-
 -- the task of the run
 abbrev task : tie.Start → Task
 task s = let a = s .args in taskOf (now (a .tape)) (now (a .table)) (a .set) (a .first) (length (now (a .buf)))
@@ -26,17 +17,13 @@ do-block-requires c κs =
     let f = c .before .before in
     let s = f .before .before .before .before .before in
     let a = s .args in
-    found-needs (s .pre) (found-at (now (a .tape)) (a .from) (f .before .before .next-block .ensures) (f .found .given .1))
+    found-needs (s .pre) (found-at (now (a .tape)) (a .frame .at) (f .before .before .next-block .ensures) (f .found .given .1))
 
 returns : tie.Need-returns
 returns c =
     let s = c .before .before .before .before .before in
     let a = s .args in
-    step-ended (task s) (now (a .buf)) (a .program) (a .calls) (a .from) (a .run) (s .pre)
-    (sym (c .before .before .next-block .ensures) ∙ c .enum-told .given .1)
-
-same-length : tie.Need-same-length
-same-length c = search needs
+    step-ended (task s) (now (a .buf)) (a .frame) (a .run) (s .pre) (sym (c .before .before .next-block .ensures) ∙ c .enum-told .given .1)
 
 returns-2 : tie.Need-returns-2
 returns-2 c =
@@ -44,17 +31,16 @@ returns-2 c =
     let f = b .before .before .before in
     let s = f .before .before .before .before .before in
     let a = s .args in
-    step-done (task s) (now (a .buf)) (a .program) (a .calls) (a .from) (a .run) (s .pre)
-    (f .found .given .0 .0) (sym (f .before .before .next-block .ensures) ∙ f .found .given .1) (b .do-block .ensures)
+    step-done (task s) (now (a .buf)) (a .frame) (a .run) (s .pre) (f .found .given .0 .0) (sym (f .before .before .next-block .ensures) ∙ f .found .given .1) (b .do-block .ensures)
 
 pub take-step-spec : {M : Type 1} → statement M
 take-step-spec =
     tie.close
     (tie.spec
-    next-block-requires
-    enum-told
-    enum-known-found
+    (λ c κs. search needs)
+    (λ c. search needs)
+    (λ c. search needs)
     do-block-requires
     returns
-    same-length
+    (λ c. search needs)
     returns-2)

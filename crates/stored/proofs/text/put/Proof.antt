@@ -14,38 +14,14 @@ Inv-loop path₀ at words to₀ i₀ path to i = (to ≤ length path) × (length
 abbrev μ-loop : tie.MeasureT-loop
 μ-loop path₀ at words to₀ i₀ path to i = length words - i
 
-loop-holds : tie.Need-loop-holds Inv-loop μ-loop
-loop-holds c = search needs
-
-same-length : tie.Need-same-length Inv-loop μ-loop
-same-length c = search needs
-
 returns : tie.Need-returns Inv-loop μ-loop
 returns c = let l = c .before .before .loop in (l .inv .0, sym (length-take-le (l .to) (l .path) (l .inv .0)))
-
-shared-slice-read-path : tie.Need-shared-slice-read-path Inv-loop μ-loop
-shared-slice-read-path c = search needs
-
-slice-write-path : tie.Need-slice-write-path Inv-loop μ-loop
-slice-write-path c = search needs
-
-add-to : tie.Need-add-to Inv-loop μ-loop
-add-to c = search needs
-
-add-i : tie.Need-add-i Inv-loop μ-loop
-add-i c = search needs
-
-loop-less : tie.Need-loop-less Inv-loop μ-loop
-loop-less c = search needs
 
 loop-again : tie.Need-loop-again Inv-loop μ-loop
 loop-again c =
     let l = c .before .before .before .loop in
     let same = length-set (l .path) (l .to) (getD (c .before .before .before .before .args .words .now) (l .i) 0) in
     (omega (arith, same, c .before .if1 .left), same ∙ l .inv .1, search needs)
-
-same-length-2 : tie.Need-same-length-2 Inv-loop μ-loop
-same-length-2 c = search needs
 
 returns-2 : tie.Need-returns-2 Inv-loop μ-loop
 returns-2 c = let l = c .before .loop in (l .inv .0, sym (length-take-le (l .to) (l .path) (l .inv .0)))
@@ -56,14 +32,14 @@ put-spec =
     (tie.spec
     Inv-loop
     μ-loop
-    loop-holds
-    same-length
+    (λ c. search needs)
+    (λ c. search needs)
     returns
-    shared-slice-read-path
-    slice-write-path
-    add-to
-    add-i
-    loop-less
+    (λ c. search needs)
+    (λ c. search needs)
+    (λ c. search needs)
+    (λ c. search needs)
+    (λ c. search needs)
     loop-again
-    same-length-2
+    (λ c. search needs)
     returns-2)

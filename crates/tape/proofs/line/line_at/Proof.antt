@@ -7,18 +7,12 @@ use Rattle.tape.proofs.Lining.{line-by}
 use Rattle.tape.proofs.line.line_at.Statement.{statement}
 use Rattle.tape.proofs.line.line_at.Tie as tie
 
-find-line-feed-requires : tie.Need-find-line-feed-requires
-find-line-feed-requires c κs = search needs
-
 returns : tie.Need-returns
 unfolding lineAt
 returns c =
     let a = c .before .before .before .args in
     line-by (a .tape .now) (a .from) (c .before .before .before .pre)
     (rw (← c .before .find-line-feed .ensures .0, le-ltb _ _ (c .if1 .taken)))
-
-add-t6 : tie.Need-add-t6
-add-t6 c = search needs
 
 returns-2 : tie.Need-returns-2
 unfolding lineAt
@@ -27,18 +21,6 @@ returns-2 c =
     line-by (a .tape .now) (a .from) (c .before .before .before .before .pre)
     (rw (← c .before .before .find-line-feed .ensures .0, lt-ltb _ _ (c .before .if1 .left), le-ltb _ _ (c .if2 .taken)))
 
-sub-if3 : tie.Need-sub-if3
-sub-if3 c = search needs
-
-shared-slice-read-if3 : tie.Need-shared-slice-read-if3
-shared-slice-read-if3 c = search needs
-
-sub-t9 : tie.Need-sub-t9
-sub-t9 c = search needs
-
-add-t10 : tie.Need-add-t10
-add-t10 c = search needs
-
 returns-3 : tie.Need-returns-3
 unfolding lineAt
 returns-3 c =
@@ -46,9 +28,6 @@ returns-3 c =
     let a = o .before .before .before .args in
     line-by (a .tape .now) (a .from) (o .before .before .before .pre)
     (rw (← o .before .find-line-feed .ensures .0, lt-ltb _ _ (o .if1 .left), lt-ltb _ _ (c .before .before .if2 .left), eq-eqb _ _ (c .if3 .taken)))
-
-add-t4 : tie.Need-add-t4
-add-t4 c = search needs
 
 returns-4 : tie.Need-returns-4
 unfolding lineAt
@@ -62,14 +41,14 @@ pub line-at-spec : {M : Type 1} → statement M
 line-at-spec =
     tie.close
     (tie.spec
-    find-line-feed-requires
+    (λ c κs. search needs)
     returns
-    add-t6
+    (λ c. search needs)
     returns-2
-    sub-if3
-    shared-slice-read-if3
-    sub-t9
-    add-t10
+    (λ c. search needs)
+    (λ c. search needs)
+    (λ c. search needs)
+    (λ c. search needs)
     returns-3
-    add-t4
+    (λ c. search needs)
     returns-4)

@@ -6,23 +6,11 @@ use mathlib.Core.Bool.{_||_}
 use mir.Syntax.{w32}
 use mir.Val.{SFits, toZ, ofZ}
 use mir.Facts.{toZ-ofZ}
-use Rattle.cycles.specs.Axis.{allowanceLine}
-use Rattle.cycles.specs.Limits.{outsideTo}
+use Rattle.axes.specs.Axis.{allowanceLine}
+use Rattle.axes.specs.Limits.{outsideTo}
 use Rattle.turning.proofs.Reach.{reach}
 use Rattle.turning.proofs.cycle.ends_outside.Statement.{statement}
 use Rattle.turning.proofs.cycle.ends_outside.Tie as tie
-
-is-outside-to-requires : tie.Need-is-outside-to-requires
-is-outside-to-requires c κs = search needs
-
-line-of-requires : tie.Need-line-of-requires
-line-of-requires c κs = search needs
-
-line-of-requires-2 : tie.Need-line-of-requires-2
-line-of-requires-2 c κs = search needs
-
-is-outside-to-requires-2 : tie.Need-is-outside-to-requires-2
-is-outside-to-requires-2 c κs = search needs
 
 returns : tie.Need-returns
 returns c =
@@ -44,8 +32,8 @@ pub ends-outside-spec : {M : Type 1} → statement M
 ends-outside-spec =
     tie.close
     (tie.spec
-    is-outside-to-requires
-    line-of-requires
-    line-of-requires-2
-    is-outside-to-requires-2
+    (λ c κs. search needs)
+    (λ c κs. search needs)
+    (λ c κs. search needs)
+    (λ c κs. search needs)
     returns)

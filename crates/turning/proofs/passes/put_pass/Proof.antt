@@ -8,30 +8,6 @@ use Rattle.turning.proofs.Writing.{pass-laid}
 use Rattle.turning.proofs.passes.put_pass.Statement.{statement}
 use Rattle.turning.proofs.passes.put_pass.Tie as tie
 
-add-second : tie.Need-add-second
-add-second c = search needs
-
-add-third : tie.Need-add-third
-add-third c = search needs
-
-add-fourth : tie.Need-add-fourth
-add-fourth c = search needs
-
-put-rapid-requires : tie.Need-put-rapid-requires
-put-rapid-requires c κs = search needs
-
-put-feed-requires : tie.Need-put-feed-requires
-put-feed-requires c κs = search needs
-
-put-feed-requires-2 : tie.Need-put-feed-requires-2
-put-feed-requires-2 c κs = search needs
-
-put-rapid-requires-2 : tie.Need-put-rapid-requires-2
-put-rapid-requires-2 c κs = search needs
-
-same-length : tie.Need-same-length
-same-length c = search needs
-
 -- the places of the pass, as they are read back
 same-from : (c : tie.After-struct-told) → toZ w32 (ofZ w32 (c .before .before .args .p .from)) ≡ c .before .before .args .p .from
 same-from c = search needs
@@ -57,12 +33,12 @@ pub put-pass-spec : {M : Type 1} → statement M
 put-pass-spec =
     tie.close
     (tie.spec
-    add-second
-    add-third
-    add-fourth
-    put-rapid-requires
-    put-feed-requires
-    put-feed-requires-2
-    put-rapid-requires-2
-    same-length
+    (λ c. search needs)
+    (λ c. search needs)
+    (λ c. search needs)
+    (λ c κs. search needs)
+    (λ c κs. search needs)
+    (λ c κs. search needs)
+    (λ c κs. search needs)
+    (λ c. search needs)
     returns)

@@ -65,9 +65,6 @@ add-next c =
     let t = c .before .before .before .before .before .before .loop-test .taken in
     omega (arith, t, l .loop .inv .2 .place, s .pre .1)
 
-add-done : tie.Need-add-done Inv-loop μ-loop
-add-done c = search needs
-
 loop-less : tie.Need-loop-less Inv-loop μ-loop
 loop-less c = let t = c .before .before .before .before .before .before .loop-test .taken in omega arith
 
@@ -106,7 +103,7 @@ put-passes-spec =
     step-requires
     put-pass-requires
     add-next
-    add-done
+    (λ c. search needs)
     loop-less
     loop-again
     same-length

@@ -9,25 +9,13 @@ use mir.Val.{SFits, toZ, ofZ}
 use mir.Facts.{toZ-ofZ}
 use Rattle.whole.specs.Signed.{along}
 use Rattle.moves.specs.Form.{recordStart}
-use Rattle.cycles.specs.Axis.{side, net, allowanceLine}
-use Rattle.cycles.proofs.Axes.{line-fits}
+use Rattle.axes.specs.Axis.{side, net, allowanceLine}
+use Rattle.axes.proofs.Axes.{line-fits}
 use Rattle.turning.specs.Turning.{passCount, recordCount}
 use Rattle.turning.proofs.Turned.{some-passes}
 use Rattle.turning.proofs.Writing.{turning-laid}
 use Rattle.turning.proofs.passes.put_turning.Statement.{statement}
 use Rattle.turning.proofs.passes.put_turning.Tie as tie
-
-line-of-requires : tie.Need-line-of-requires
-line-of-requires c κs = search needs
-
-side-of-requires : tie.Need-side-of-requires
-side-of-requires c κs = search needs
-
-net-of-requires : tie.Need-net-of-requires
-net-of-requires c κs = search needs
-
-pass-count-requires : tie.Need-pass-count-requires
-pass-count-requires c κs = search needs
 
 -- ---- what the calls gave, of the cycle itself
 the-line : (c : tie.After-line-of) → toZ w32 (ofZ w32 (c .line-of .result)) ≡ allowanceLine (c .before .before .before .before .before .before .before .args .c .path)
@@ -56,9 +44,6 @@ put-passes-requires c κs =
       subst (SFits w32) (sym (λ i. toZ-ofZ f i +ℤ along (the-side (p .before .before) i) (p .before .net-of .ensures i))) (line-fits a f g (net a) (omega arith)),
     )
 
-same-length : tie.Need-same-length
-same-length c = search needs
-
 returns : tie.Need-returns
 returns c =
     let p = c .before .before .before .before in
@@ -76,10 +61,10 @@ pub put-turning-spec : {M : Type 1} → statement M
 put-turning-spec =
     tie.close
     (tie.spec
-    line-of-requires
-    side-of-requires
-    net-of-requires
-    pass-count-requires
+    (λ c κs. search needs)
+    (λ c κs. search needs)
+    (λ c κs. search needs)
+    (λ c κs. search needs)
     put-passes-requires
-    same-length
+    (λ c. search needs)
     returns)

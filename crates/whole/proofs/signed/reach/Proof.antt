@@ -34,32 +34,17 @@ length c = record { bits = refl; fits = fit c .by }
 turned : (c : tie.Start) {t : Side} → c .args .side ≡ t → c .args .from +ℤ along t (c .args .by) ≡ c .args .from +ℤ along (c .args .side) (c .args .by)
 turned c e = ap (λ (t : Side). c .args .from +ℤ along t (c .args .by)) (sym e)
 
-enum-told : tie.Need-enum-told
-enum-told c = search needs
-
 cast-result : tie.Need-cast-result
 cast-result c = let s = c .before .before in cast-need (held (s .fits .from)) w64 (fit s .from)
-
-cast-result-2 : tie.Need-cast-result-2
-cast-result-2 c = search needs
 
 add-result : tie.Need-add-result
 add-result c = let s = c .before .before in sum-need (start s) (length s) (fit s .sum)
 
-enum-told-2 : tie.Need-enum-told-2
-enum-told-2 c = search needs
-
 cast-result-3 : tie.Need-cast-result-3
 cast-result-3 c = let s = c .before .before in cast-need (held (s .fits .from)) w64 (fit s .from)
 
-cast-result-4 : tie.Need-cast-result-4
-cast-result-4 c = search needs
-
 sub-result : tie.Need-sub-result
 sub-result c = let s = c .before .before in dif-need (start s) (length s) (fit s .dif)
-
-enum-told-3 : tie.Need-enum-told-3
-enum-told-3 c = search needs
 
 cast-result-5 : tie.Need-cast-result-5
 cast-result-5 c = let s = c .before .before in cast-need (held (s .fits .from)) w64 (fit s .from)
@@ -77,15 +62,15 @@ pub reach-spec : {M : Type 1} → statement M
 reach-spec =
     tie.close
     (tie.spec
-    enum-told
+    (λ c. search needs)
     cast-result
-    cast-result-2
+    (λ c. search needs)
     add-result
-    enum-told-2
+    (λ c. search needs)
     cast-result-3
-    cast-result-4
+    (λ c. search needs)
     sub-result
-    enum-told-3
+    (λ c. search needs)
     cast-result-5
     returns
     returns-2

@@ -1,0 +1,55 @@
+-- `acts::stands::stands_with` meets its contract.
+use mathlib.Core.Path.{_≡_, sym, ap, _∙_}
+use Rattle.codes.specs.declared.meaning.Motion.{Motion}
+use Rattle.acts.specs.Stands.{standsWith}
+use borrow.Author.Needs.{needs}
+use Rattle.acts.proofs.stands.stands_with.Statement.{statement}
+use Rattle.acts.proofs.stands.stands_with.Tie as tie
+
+-- a motion that was tested for
+by : {m n : Motion} → m ≡ n → standsWith n ≡ standsWith m
+by e = ap standsWith (sym e)
+
+returns : tie.Need-returns
+unfolding standsWith
+returns c = c .stands-freely .ensures ∙ by (c .before .enum-told .given .1)
+
+returns-2 : tie.Need-returns-2
+unfolding standsWith
+returns-2 c = c .stands-freely2 .ensures ∙ by (c .before .enum-told2 .given .1)
+
+returns-3 : tie.Need-returns-3
+unfolding standsWith
+returns-3 c = c .stands-freely3 .ensures ∙ by (c .before .enum-told3 .given .1)
+
+returns-4 : tie.Need-returns-4
+unfolding standsWith
+returns-4 c = by (c .enum-told4 .given .1)
+
+returns-5 : tie.Need-returns-5
+unfolding standsWith
+returns-5 c = by (c .enum-told5 .given .1)
+
+returns-6 : tie.Need-returns-6
+unfolding standsWith
+returns-6 c = by (c .enum-told6 .given .1)
+
+pub stands-with-spec : {M : Type 1} → statement M
+stands-with-spec =
+    tie.close
+    (tie.spec
+    (λ c. search needs)
+    (λ c κs. search needs)
+    (λ c. search needs)
+    (λ c κs. search needs)
+    (λ c. search needs)
+    (λ c κs. search needs)
+    (λ c. search needs)
+    (λ c. search needs)
+    (λ c. search needs)
+    returns
+    returns-2
+    returns-3
+    returns-4
+    returns-5
+    returns-6)

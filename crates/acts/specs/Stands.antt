@@ -1,0 +1,47 @@
+-- 01, the word rules that a motion makes: "no G04 with G25 or G27; .. G04 takes no path word; D4 stands with G04 (missing: a dwell of 0); D0 D2 D3 with G84; D3 D4 D5 with G86; no other P
+-- or D. G84 and G86 need one word of each axis, G86 also D5." A row for each motion; "what a G or M asks or forbids holds only where that word applies".
+use mathlib.Core.Bool.{Bool, true, false, _||_}
+use mathlib.Core.List.{List, [], _∷_}
+use Prim.Native.Nat.{ℕ}
+use lib.Dec.{eqb}
+use lib.ListN.{getD}
+use Rattle.codes.specs.declared.meaning.Code.{Code}
+use Rattle.codes.specs.declared.meaning.Code.the-variants as code
+use Rattle.codes.specs.declared.meaning.Meaning.the-variants as means
+use Rattle.codes.specs.declared.meaning.Motion.{Motion}
+use Rattle.codes.specs.declared.meaning.Motion.the-variants as motion
+use Rattle.acts.specs.declared.stands.Stands.{Stands}
+use Rattle.acts.specs.declared.stands.Path.the-variants as path
+
+-- no index of a D word: those are 0 to 9
+abbrev pub none : ℕ
+none = 10
+
+unfoldable pub standsFreely : Stands
+standsFreely = record { takes = none ∷ none ∷ none ∷ none ∷ []; needs = none; path = path.Any; calls = true }
+
+-- the D words that it takes, the one that it needs, its path words, and whether it may stand with G25 or G27. That G84 and G86 do not is said by their path words
+unfoldable pub standsWith : Motion → Stands
+standsWith motion.Rapid = standsFreely
+standsWith motion.Feed = standsFreely
+standsWith motion.Thread = standsFreely
+standsWith motion.Dwell = record { takes = 4 ∷ none ∷ none ∷ none ∷ []; needs = none; path = path.Forbidden; calls = false }
+standsWith motion.Turning = record { takes = 0 ∷ 2 ∷ 3 ∷ none ∷ []; needs = none; path = path.EachAxis; calls = true }
+standsWith motion.Grooving = record { takes = 3 ∷ 4 ∷ 5 ∷ none ∷ []; needs = 5; path = path.EachAxis; calls = true }
+
+-- of a G number
+unfoldable pub standsBy : Code → Stands
+standsBy (code.Of g (means.Moves m)) = standsWith m
+standsBy (code.Of g (means.CuttingSpeed t)) = standsFreely
+standsBy (code.Of g (means.PerRevolution t)) = standsFreely
+standsBy (code.Of g (means.Shift k)) = standsFreely
+standsBy (code.Of g (means.Steers s)) = standsFreely
+standsBy (code.Of g means.Metric) = standsFreely
+standsBy (code.Of g means.Spindle) = standsFreely
+standsBy (code.Of g means.Coolant) = standsFreely
+standsBy (code.Of g (means.Flows f)) = standsFreely
+standsBy code.Unknown = standsFreely
+
+-- the D word of an index is one of those that are taken, four at most
+unfoldable pub isTaken : List ℕ → ℕ → Bool
+isTaken takes i = eqb (getD takes 0 0) i || (eqb (getD takes 1 0) i || (eqb (getD takes 2 0) i || eqb (getD takes 3 0) i))

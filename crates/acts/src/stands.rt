@@ -1,0 +1,79 @@
+// What a motion asks of the other words of its block, and what it forbids: a row for each. (01: "no G04 with G25 or G27; .. G04 takes no path word; D4 stands with G04 (missing: a dwell
+// of 0); D0 D2 D3 with G84; D3 D4 D5 with G86; no other P or D. G84 and G86 need one word of each axis, G86 also D5.")
+use codes::meaning::Code;
+use codes::meaning::Meaning;
+use codes::meaning::Motion;
+ghost use mathlib.Core.Path.{_≡_};
+ghost use Rattle.acts.specs.Stands.{standsFreely, standsWith, standsBy};
+
+// Which path words may stand, and which must: X or U, and Z or W.
+pub enum Path {
+    Any,
+    Forbidden,
+    EachAxis,
+}
+
+pub struct Stands {
+    // the D words that it takes, by their indexes, NONE where there are no more
+    pub takes: [usize; 4],
+    // the D word that it needs, NONE for none
+    pub needs: usize,
+    pub path: Path,
+    // whether it may stand with G25 or G27, as far as this is asked by itself
+    pub calls: bool,
+}
+
+// No index of a D word: those are 0 to 9.
+pub const NONE: usize = 10;
+
+pub fn stands_freely() -> Stands
+    ensures { λ r. ⌜ r ≡ standsFreely ⌝ }
+{
+    Stands {
+        takes: [NONE; 4],
+        needs: NONE,
+        path: Path::Any,
+        calls: true,
+    }
+}
+
+pub fn stands_with(m: Motion) -> Stands
+    ensures { λ r. ⌜ r ≡ standsWith m ⌝ }
+{
+    match m {
+        Motion::Rapid => stands_freely(),
+        Motion::Feed => stands_freely(),
+        Motion::Thread => stands_freely(),
+        Motion::Dwell => Stands {
+            takes: [4, NONE, NONE, NONE],
+            needs: NONE,
+            path: Path::Forbidden,
+            calls: false,
+        },
+        Motion::Turning => Stands {
+            takes: [0, 2, 3, NONE],
+            needs: NONE,
+            path: Path::EachAxis,
+            calls: true,
+        },
+        Motion::Grooving => Stands {
+            takes: [3, 4, 5, NONE],
+            needs: 5,
+            path: Path::EachAxis,
+            calls: true,
+        },
+    }
+}
+
+// What a G number asks: that of its motion, where it has one.
+pub fn stands_by(code: Code) -> Stands
+    ensures { λ r. ⌜ r ≡ standsBy code ⌝ }
+{
+    match code {
+        Code::Of(_, meaning) => match meaning {
+            Meaning::Moves(m) => stands_with(m),
+            _ => stands_freely(),
+        },
+        Code::Unknown => stands_freely(),
+    }
+}

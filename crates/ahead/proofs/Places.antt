@@ -1,0 +1,100 @@
+-- Laws of the places that the runner goes to: each is that of a line of the tape.
+-- Assumes nothing.
+use mathlib.Core.Path.{_≡_, refl}
+use mathlib.Core.Bool.{_||_}
+use mathlib.Core.List.{List, [], _∷_}
+use Prim.Native.Nat.{ℕ, zero, suc, _<_}
+use lib.Dec.{ltb, eqb}
+use lib.ListN.{length}
+use borrow.Author.Tests.{ltb-true}
+use Rattle.alarms.specs.Given.{IsAlarm}
+use Rattle.tape.specs.Lines.{Text, lineAt, linesUp, lines}
+use Rattle.numbers.proofs.Bounds.{cond-ind}
+use Rattle.block.specs.Words.{headOf}
+use Rattle.settings.specs.Wrong.{highestSubroutine}
+use Rattle.settings.specs.declared.control.Settings.{Settings}
+use Rattle.finding.specs.Finding.{hereOf, foundBy, seekLine, findProgram, firstBlock, blockOfProgram}
+use Rattle.finding.specs.declared.Here.{Here}
+use Rattle.finding.specs.declared.Here.the-variants as here
+use Rattle.finding.specs.declared.Sought.{Sought}
+use Rattle.finding.specs.declared.Sought.the-variants.{Program, Block as OfNumber, AnyBlock}
+use Rattle.finding.specs.declared.Found.{Found}
+use Rattle.finding.specs.declared.Found.the-variants.{At, Nowhere}
+use Rattle.state.specs.declared.request.Request.{Request}
+use Rattle.state.specs.declared.request.Request.the-variants as next
+use Rattle.ahead.specs.Ahead.{mostCalls, calledAt, jumpedTo, lookedUp}
+use Rattle.ahead.specs.declared.Frame.{Frame}
+use Rattle.ahead.specs.declared.Onward.{Onward}
+use Rattle.ahead.specs.declared.Onward.the-variants.{On, Call, Jump, Return, End, Stop}
+
+-- ---- the lines of a tape stand on it
+abbrev pub AllIn : ℕ → List Text → Type 0
+AllIn n [] = Unit {0}
+AllIn n (t ∷ ts) = (t .place < n) × AllIn n ts
+
+up-in : (k : ℕ) (s : List ℕ) (p : ℕ) → AllIn (length s) (linesUp k s p)
+unfolding linesUp
+up-in zero s p = tt
+up-in (suc k) s p = cond-ind (AllIn (length s)) (ltb p (length s)) _ [] (λ t. (ltb-true p (length s) t, up-in k s (lineAt s p .after))) tt
+
+pub lines-in : (s : List ℕ) (p : ℕ) → AllIn (length s) (lines s p)
+unfolding lines
+lines-in s p = up-in (length s) s p
+
+-- ---- what is found among them
+abbrev pub FoundIn : ℕ → Found → Type 0
+FoundIn n (At p) = p < n
+FoundIn n Nowhere = Unit {0}
+
+found-here : (m : ℕ) (h : Here) (p : ℕ) (f : Found) → p < m → FoundIn m f → FoundIn m (foundBy h p f)
+unfolding foundBy
+found-here m here.Is p f h g = h
+found-here m here.Ends p f h g = tt
+found-here m here.On p f h g = g
+
+seek-in : (m : ℕ) (w : Sought) (ts : List Text) → AllIn m ts → FoundIn m (seekLine w ts)
+unfolding seekLine
+seek-in m w [] a = tt
+seek-in m w (t ∷ ts) a = found-here m (hereOf w (headOf (t .bytes))) (t .place) (seekLine w ts) (a .0) (seek-in m w ts (a .1))
+
+pub sought-on : (w : Sought) (tape : List ℕ) (p : ℕ) → FoundIn (length tape) (seekLine w (lines tape p))
+sought-on w tape p = seek-in (length tape) w (lines tape p) (lines-in tape p)
+
+pub program-on : (n : ℕ) (tape : List ℕ) (p : ℕ) → FoundIn (length tape) (findProgram n (lines tape p))
+program-on n tape p = sought-on (Program n) tape p
+
+block-on : (n : ℕ) (tape : List ℕ) (program : ℕ) → FoundIn (length tape) (blockOfProgram n tape program)
+unfolding blockOfProgram
+block-on n tape program = sought-on (OfNumber n) tape (lineAt tape program .after)
+
+pub first-on : (tape : List ℕ) (p : ℕ) → FoundIn (length tape) (firstBlock (lines tape p))
+first-on tape p = sought-on AnyBlock tape p
+
+-- ---- what it asks for: places on the tape, or one of 01's alarms
+abbrev pub OnwardOn : ℕ → Onward → Type 0
+OnwardOn n On = Unit {0}
+OnwardOn n (Call p times) = p < n
+OnwardOn n (Jump p) = p < n
+OnwardOn n Return = Unit {0}
+OnwardOn n End = Unit {0}
+OnwardOn n (Stop alarm place) = IsAlarm alarm
+
+called-on : (n : ℕ) (f : Found) (r : Frame) (times : ℕ) → FoundIn n f → OnwardOn n (calledAt f r times)
+unfolding calledAt
+called-on n Nowhere r times h = refl
+called-on n (At p) r times h = cond-ind (OnwardOn n) (eqb (r .«calls_left») 0) _ (Call p times) (λ _. refl) h
+
+jumped-on : (n : ℕ) (f : Found) (r : Frame) → FoundIn n f → OnwardOn n (jumpedTo f r)
+unfolding jumpedTo
+jumped-on n Nowhere r h = refl
+jumped-on n (At p) r h = h
+
+pub looked-on : (tape : List ℕ) (set : Settings) (first : ℕ) (r : Frame) (n : Request) → OnwardOn (length tape) (lookedUp tape set first r n)
+unfolding lookedUp
+looked-on tape set first r next.On = tt
+looked-on tape set first r (next.Call n times) =
+    let f = findProgram n (lines tape first) in
+    cond-ind (OnwardOn (length tape)) (ltb n (set .«lowest_subroutine») || ltb highestSubroutine n) _ (calledAt f r times) (λ _. refl) (called-on (length tape) f r times (program-on n tape first))
+looked-on tape set first r (next.Jump n) = jumped-on (length tape) (blockOfProgram n tape (r .program)) r (block-on n tape (r .program))
+looked-on tape set first r next.Return = cond-ind (OnwardOn (length tape)) (eqb (r .«calls_left») mostCalls) _ Return (λ _. refl) tt
+looked-on tape set first r next.End = cond-ind (OnwardOn (length tape)) (eqb (r .«calls_left») mostCalls) End _ (λ _. tt) refl

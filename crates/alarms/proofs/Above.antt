@@ -1,0 +1,42 @@
+-- An alarm is above 0 and has eight bits, whichever it is: both are read off the list of those that are given.
+-- Assumes nothing.
+use mathlib.Core.Path.{_≡_, refl, sym, subst}
+use mathlib.Core.Bool.{Bool, true, false, _&&_, _||_}
+use mathlib.Core.List.{List, [], _∷_}
+use Prim.Native.Nat.{ℕ, _<_}
+use native.Mathlib.Omega.{arith}
+use lib.Dec.{T, eqb, ltb}
+use borrow.Author.Tests.{eqb-true, ltb-true}
+use Rattle.whole.specs.Among.{among}
+use Rattle.alarms.specs.Given.{given, IsAlarm}
+
+either : (a b : Bool) → (a || b) ≡ true → {A : Type 0} → (a ≡ true → A) → (b ≡ true → A) → A
+either true b e f g = f e
+either false b e f g = g e
+
+-- every number of a row lies above 0 and below 256
+within : List ℕ → Bool
+within [] = true
+within (a ∷ rest) = (ltb 0 a && ltb a 256) && within rest
+
+both : (a b : Bool) → (a && b) ≡ true → (a ≡ true) × (b ≡ true)
+both true b e = (refl, e)
+both false b e = absurd (subst T (sym e) tt)
+
+one : (row : List ℕ) (n : ℕ) → within row ≡ true → among n row ≡ true → (0 < n) × (n < 256)
+unfolding within
+one [] n w h = absurd (subst T (sym h) tt)
+one (a ∷ rest) n w h =
+    let p = both (ltb 0 a && ltb a 256) (within rest) w in
+    let q = both (ltb 0 a) (ltb a 256) (p .0) in
+    either (eqb n a) (among n rest) h (λ e. let s = eqb-true n a e in (omega (arith, s, ltb-true 0 a (q .0)), omega (arith, s, ltb-true a 256 (q .1)))) (λ e. one rest n (p .1) e)
+
+all-within : within given ≡ true
+unfolding within
+all-within = refl
+
+pub alarm-within : (n : ℕ) → IsAlarm n → (0 < n) × (n < 256)
+alarm-within n h = one given n all-within h
+
+pub alarm-above : (n : ℕ) → IsAlarm n → n ≡ 0 → ⊥
+alarm-above n h e = omega (arith, alarm-within n h .0, e)

@@ -1,0 +1,34 @@
+-- THE ALARMS THAT ARE GIVEN. 0 is none of them: it says that a list is complete.
+use mathlib.Core.Path.{_≡_}
+use mathlib.Core.Bool.{true}
+use mathlib.Core.List.{List, [], _∷_}
+use Prim.Native.Nat.{ℕ}
+use Rattle.whole.specs.Among.{among}
+use Rattle.alarms.specs.Numbers.{badSettings, tapeTooLong, bufferTooShort, noProgram, badByteOrNumber, badLineStart, lineTooLong, tooManyBlocks, wordRules, programMissing, blockMissing, tooDeep, tooManyBegun, wrongEnd, noMotion, notRapid, badFeed, outsideLimits, badLengths, noRoom}
+
+abbrev pub given : List ℕ
+given =
+    badSettings
+    ∷ tapeTooLong
+    ∷ bufferTooShort
+    ∷ noProgram
+    ∷ badByteOrNumber
+    ∷ badLineStart
+    ∷ lineTooLong
+    ∷ tooManyBlocks
+    ∷ wordRules
+    ∷ programMissing
+    ∷ blockMissing
+    ∷ tooDeep
+    ∷ tooManyBegun
+    ∷ wrongEnd
+    ∷ noMotion
+    ∷ notRapid
+    ∷ badFeed
+    ∷ outsideLimits
+    ∷ badLengths
+    ∷ noRoom
+    ∷ []
+
+abbrev pub IsAlarm : ℕ → Type 0
+IsAlarm n = among n given ≡ true

@@ -1,0 +1,2 @@
+-- The laws of an answer.
+pub mod Finished

@@ -1,0 +1,5 @@
+-- The laws that the cycles share.
+pub mod Axes
+pub mod Reaching
+pub mod Places
+pub mod Fitting

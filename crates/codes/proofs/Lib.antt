@@ -1,0 +1,2 @@
+-- The laws of the tables of G and M numbers.
+pub mod Tables

@@ -1,0 +1,89 @@
+// A case judged: its tape is run through the board's door with what the case gives, the listing is made of what came of it, and that is compared with the listing that is wanted.
+use answers::Answer;
+use stored::compare::Verdict;
+use stored::given::ALL;
+ghost use Prim.Native.Nat.{_≤_};
+ghost use lib.ListN.{length};
+ghost use Rattle.stored.specs.Texts.{FromOne};
+
+// The longest listing.
+const TEXT: usize = listing::lines::LONGEST_HEAD
+    + listing::lines::LONGEST_RECORD_LINE * moves::RECORD_LIMIT;
+
+fn listing_text() -> [u8; TEXT] {
+    [0u8; TEXT]
+}
+
+// The settings in the order of the door.
+fn settings_of(given: &[i32; ALL]) -> [i32; settings::row::COUNT] {
+    [
+        given[stored::given::MAIN],
+        given[stored::given::LOWEST],
+        given[stored::given::RETRACT],
+        given[stored::given::X],
+        given[stored::given::Z],
+        given[stored::given::X_LOW],
+        given[stored::given::X_HIGH],
+        given[stored::given::Z_LOW],
+        given[stored::given::Z_HIGH],
+    ]
+}
+
+// The answer that the door has packed.
+fn unpacked(packed: u64) -> Answer {
+    let count = (packed % 65_536) as usize;
+    let place = (packed / 65_536 % 65_536) as usize;
+    let alarm = (packed / 4_294_967_296 % 256) as u8;
+    if alarm == 0 {
+        return Answer::Complete(count);
+    }
+    Answer::Alarm(alarm, place, count)
+}
+
+// Compares the listing of an answer, and of the list that came with it, with the one that is wanted.
+fn judge_answer(answer: Answer, list: &[u8], want: &[u8]) -> Verdict
+    ensures { λ r. ⌜ FromOne r ⌝ }
+{
+    let mut text = listing_text();
+    let n = listing::lines::put_listing(answer, list, &mut text);
+    stored::compare::compare(&text[..n], want)
+}
+
+// Runs a tape through the door and judges what it answers and leaves.
+fn judge_run(tape: &[u8], table: &[i32], settings: &[i32], buf: &mut [u8], want: &[u8]) -> Verdict
+    ensures { λ r. ⌜ FromOne r ⌝ }
+{
+    let packed = board::tm02_interpret(tape, table, settings, buf);
+    judge_answer(unpacked(packed), buf, want)
+}
+
+// Lends the tape the table and the buffer that its case asks for, and no number and no byte more.
+pub fn judge(tape: &[u8], given: [i32; ALL], want: &[u8]) -> Verdict
+    ensures { λ r. ⌜ FromOne r ⌝ }
+{
+    let mut space = io::large_buffer();
+    let numbers = stored::given::numbers_of(&given);
+    let bytes = stored::given::bytes_of(&given);
+    let settings = settings_of(&given);
+    judge_run(
+        tape,
+        &given[..numbers],
+        &settings,
+        &mut space[..bytes],
+        want,
+    )
+}
+
+// Judges a case whose settings and tape stand in one text, from `from` on.
+pub fn judge_case(case: &[u8], from: usize, want: &[u8]) -> Verdict
+    requires { ⌜ from ≤ length (now case) ⌝ }
+    ensures { λ r. ⌜ FromOne r ⌝ }
+{
+    let mut given = stored::given::usual();
+    let start = stored::given::read_given(case, from, &mut given);
+    if !start.lawful {
+        return Verdict::Unread;
+    }
+    let at = start.at;
+    judge(&case[at..], given, want)
+}

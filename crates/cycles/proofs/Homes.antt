@@ -1,0 +1,80 @@
+-- A cycle ends where it began: a law for each cycle, and one for the family.
+-- Assumes nothing.
+use mathlib.Core.Path.{_≡_, refl, ap, _∙_}
+use mathlib.Core.List.{List, [], _∷_, _++_}
+use Prim.Native.Nat.{ℕ}
+use lib.IntN.{ℤ, _+ℤ_}
+use Rattle.whole.specs.Signed.{along}
+use Rattle.whole.specs.declared.signed.Side.{Side}
+use Rattle.whole.specs.declared.signed.Side.the-variants.{Minus}
+use Rattle.moves.specs.declared.record.Record.{Record}
+use Rattle.axes.specs.Axis.{side}
+use Rattle.axes.specs.Goes.{rapidTo}
+use Rattle.turning.specs.Turning.{row, passFor, passOn, passes, turning}
+use Rattle.turning.specs.declared.cycle.Turning as turns
+use Rattle.grooving.specs.Grooving.{cuts, cutting, dwelling, plunge, plunges, afterFirst, steps, grooving, outTo}
+use Rattle.grooving.specs.declared.groove.Groove.{Groove}
+use Rattle.cycles.specs.declared.Cycle.{Cycle}
+use Rattle.cycles.specs.declared.Cycle.the-variants.{Turning, Grooving}
+use Rattle.cycles.specs.Cycle.{records}
+use Rattle.cycles.specs.Known.{home}
+use Rattle.moves.specs.Last.{lastOf}
+
+-- ---- of any coordinate: f is X or Z of a record
+module _ (f : Record → ℤ) where
+  pub last-append : (v w : List Record) (x : ℤ) → lastOf f x (v ++ w) ≡ lastOf f (lastOf f x v) w
+  last-append [] w x = refl
+  last-append (r ∷ v) w x = last-append v w (f r)
+
+  -- a row that ends with a record
+  ends-last : (v : List Record) (r : Record) (x : ℤ) → lastOf f x (v ++ (r ∷ [])) ≡ f r
+  ends-last v r x = last-append v (r ∷ []) x
+
+  -- ---- a turning cycle ends where it began
+  module _ (c : turns.Turning) (x : ℤ) (home : f (rapidTo (c .facing) (c .infeed .start) (c .path .start)) ≡ x) where
+    pass-last : (l y : ℤ) → lastOf f y (passOn (passFor c) l) ≡ x
+    unfolding passOn
+    pass-last l y = home
+
+    passes-last : (s : Side) (l : ℤ) (ds : List ℕ) → lastOf f x (passes (passOn (passFor c)) s l ds) ≡ x
+    unfolding passes
+    passes-last s l [] = refl
+    passes-last s l (d ∷ ds) =
+        last-append (passOn (passFor c) (l +ℤ along s d)) (passes (passOn (passFor c)) s (l +ℤ along s d) ds) x
+        ∙ ap (λ (y : ℤ). lastOf f y (passes (passOn (passFor c)) s (l +ℤ along s d) ds)) (pass-last (l +ℤ along s d) x)
+        ∙ passes-last s (l +ℤ along s d) ds
+
+    turning-last : lastOf f x (turning c) ≡ x
+    unfolding turning
+    turning-last = passes-last (side (c .infeed)) (c .infeed .start) (row c)
+
+  -- ---- and so does a groove
+  module _ (g : Groove) (x : ℤ) (home : f (outTo g (g .width .start) (g .depth .start)) ≡ x) where
+    plunge-last : (w y : ℤ) → lastOf f y (plunge g w) ≡ f (outTo g w (g .depth .start))
+    unfolding plunge
+    plunge-last w y =
+        last-append (cutting g w 0 (cuts g)) (dwelling g w ++ (outTo g w (g .depth .start) ∷ [])) y
+        ∙ ends-last (dwelling g w) (outTo g w (g .depth .start)) (lastOf f y (cutting g w 0 (cuts g)))
+
+    plunges-last : (w : ℤ) (ss : List ℕ) (y : ℤ) → lastOf f y (plunges g w ss) ≡ x
+    unfolding plunges
+    plunges-last w [] y = home
+    plunges-last w (s ∷ ss) y =
+        let v = w +ℤ along Minus s in
+        last-append (plunge g v) (plunges g v ss) (f (outTo g v (g .depth .start)))
+        ∙ plunges-last v ss (lastOf f (f (outTo g v (g .depth .start))) (plunge g v))
+
+    after-last : (ss : List ℕ) (y : ℤ) → y ≡ x → lastOf f y (afterFirst g ss) ≡ x
+    after-last [] y h = h
+    after-last (s ∷ ss) y h = plunges-last (g .width .start) (s ∷ ss) y
+
+    grooving-last : (y : ℤ) → lastOf f y (grooving g) ≡ x
+    unfolding grooving
+    grooving-last y =
+        last-append (plunge g (g .width .start)) (afterFirst g (steps g)) y
+        ∙ after-last (steps g) (lastOf f y (plunge g (g .width .start))) (plunge-last (g .width .start) y ∙ home)
+
+  -- ---- THE LAW, with a clause for each cycle
+  pub goes-home : (c : Cycle) (x : ℤ) → f (home c) ≡ x → lastOf f x (records c) ≡ x
+  goes-home (Turning c) x h = turning-last c x h
+  goes-home (Grooving g) x h = grooving-last g x h x

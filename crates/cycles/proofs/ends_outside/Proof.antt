@@ -1,0 +1,17 @@
+-- `cycles::ends_outside` meets its contract.
+use mathlib.Core.Path.{_∙_}
+use borrow.Author.Needs.{needs}
+use Rattle.cycles.proofs.Right.{right, asks, turning-long}
+use Rattle.cycles.proofs.ends_outside.Statement.{statement}
+use Rattle.cycles.proofs.ends_outside.Tie as tie
+
+pub ends-outside-spec : {M : Type 1} → statement M
+ends-outside-spec =
+    tie.close
+    (tie.spec
+    (λ c. search needs)
+    (λ c κs. turning-long (c .before .c .given .1) (c .before .before .before .pre))
+    (λ c. search needs)
+    (λ c κs. right (c .before .c2 .given .1) (c .before .before .before .pre))
+    (λ c. c .ends-outside .ensures ∙ asks (c .before .before .c .given .1) (c .before .before .before .before .args .l))
+    (λ c. c .ends-outside2 .ensures ∙ asks (c .before .before .c2 .given .1) (c .before .before .before .before .args .l)))

@@ -1,0 +1,22 @@
+-- What is known of a cycle, and where it starts. It serves contracts and proofs.
+use Prim.Native.Nat.{_<_, _^_}
+use mir.Syntax.{w32}
+use mir.Val.{SFits}
+use Rattle.moves.specs.declared.record.Record.{Record}
+use Rattle.axes.specs.Goes.{rapidTo}
+use Rattle.grooving.specs.Grooving as groove
+use Rattle.cycles.specs.declared.Cycle.{Cycle}
+use Rattle.cycles.specs.declared.Cycle.the-variants.{Turning, Grooving}
+
+-- what is known of a cycle that a block gave: its numbers fit their places, and its start and target are not too far apart to count its records in 64 bits
+abbrev pub Known : Cycle → Type 0
+Known (Turning c) = (SFits w32 (c .infeed .start) × SFits w32 (c .infeed .target)) × (SFits w32 (c .path .start) × SFits w32 (c .path .target)) × (c .f < 2 ^ 32)
+Known (Grooving g) =
+    (SFits w32 (g .depth .start) × SFits w32 (g .depth .target)) × (SFits w32 (g .width .start) × SFits w32 (g .width .target)) × (g .f < 2 ^ 32) × (g .dwell < 2 ^ 32)
+    × (groove.lengthOf (g .depth) < 100_000_000)
+    × (groove.lengthOf (g .width) < 100_000_000)
+
+-- the record at the place where the cycle starts: it goes back there in the end
+abbrev pub home : Cycle → Record
+home (Turning c) = rapidTo (c .facing) (c .infeed .start) (c .path .start)
+home (Grooving g) = groove.outTo g (g .width .start) (g .depth .start)

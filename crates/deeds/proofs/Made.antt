@@ -1,0 +1,112 @@
+-- What is known of the deed that a block gives: a cycle starts where the axes stand, and its numbers fit where those of the sending do. One clause for each motion.
+-- Assumes nothing.
+use mathlib.Core.Path.{_≡_, refl}
+use mathlib.Core.Bool.{Bool, true, false, cond}
+use Prim.Native.Nat.{ℕ, _<_, _^_}
+use native.Mathlib.Omega.{arith}
+use lib.IntN.{natAbs, _-ℤ_}
+use mir.Syntax.{w32}
+use mir.Val.{SFits}
+use Rattle.moves.specs.Form.{Fitting}
+use Rattle.moves.specs.Kinds.{rapid, feed, thread}
+use Rattle.moves.specs.declared.record.Record.{Record}
+use Rattle.codes.specs.declared.meaning.Motion.the-variants as motion
+use Rattle.block.specs.declared.words.Block.{Block}
+use Rattle.acts.specs.declared.acting.Kept.{Kept}
+use Rattle.acts.specs.declared.acting.Kept.the-variants as kept
+use Rattle.axes.specs.Goes.{rapidTo}
+use Rattle.turning.specs.declared.cycle.Turning as turns
+use Rattle.grooving.specs.declared.groove.Groove.{Groove}
+use Rattle.cycles.specs.Cycle as cycle
+use Rattle.cycles.specs.Known.{home}
+use Rattle.cycles.specs.declared.Cycle as cycles
+use Rattle.cycles.specs.declared.Cycle.the-variants.{Turning, Grooving}
+use Rattle.deeds.specs.declared.deed.Deed.{Deed}
+use Rattle.deeds.specs.declared.deed.Deed.the-variants.{Nothing, Nowhere, Dwell, Straight, Cycle}
+use Rattle.deeds.specs.declared.deed.Sending.{Sending}
+use Rattle.deeds.specs.Deed.{hasPath, isFacing, dWord, turningOf, grooveOf, straightIf, moveOf, deedOf}
+use Rattle.deeds.specs.Known.{Small}
+use Rattle.deeds.specs.Known.{Known}
+
+-- what is known of a sending
+pub record Sends (s : Sending) : Type 0 where
+  pub x : SFits w32 (s .x)
+  pub z : SFits w32 (s .z)
+  pub x-target : SFits w32 (s .«x_target»)
+  pub z-target : SFits w32 (s .«z_target»)
+  pub f : s .f < 2 ^ 32
+  pub near-x : natAbs (s .«x_target» -ℤ s .x) < 100_000_000
+  pub near-z : natAbs (s .«z_target» -ℤ s .z) < 100_000_000
+
+-- a record at the place where the axes stand
+abbrev pub At : Record → Sending → Type 0
+At r s = (r .x ≡ s .x) × (r .z ≡ s .z)
+
+-- a dwell is there, and a cycle starts there
+abbrev pub Starts : Deed → Sending → Type 0
+Starts Nothing s = Unit {0}
+Starts Nowhere s = Unit {0}
+Starts (Dwell r) s = At r s
+Starts (Straight m) s = Unit {0}
+Starts (Cycle c) s = At (home c) s
+
+-- what holds of both holds of what a test picks
+either-of : {A : Type 0} (P : A → Type 0) (t : Bool) (x y : A) → P x → P y → P (cond t x y)
+either-of P true x y p q = p
+either-of P false x y p q = q
+
+flag : (t : Bool) → cond t 1 0 < 2 ^ 8
+flag true = omega arith
+flag false = omega arith
+
+-- ---- where it starts
+module _ (b : Block) (s : Sending) where
+  turning-starts : Starts (Cycle (Turning (turningOf b s))) s
+  unfolding turningOf rapidTo
+  turning-starts = either-of (λ (c : turns.Turning). Starts (Cycle (Turning c)) s) (isFacing b) _ _ (refl, refl) (refl, refl)
+
+  groove-starts : Starts (Cycle (Grooving (grooveOf b s))) s
+  unfolding grooveOf rapidTo
+  groove-starts = either-of (λ (g : Groove). Starts (Cycle (Grooving g)) s) (isFacing b) _ _ (refl, refl) (refl, refl)
+
+  straight-starts : (g : Bool) (n : ℕ) (r : Record) → Starts (straightIf (hasPath b) g n r) s
+  unfolding straightIf
+  straight-starts g n r = either-of (λ (d : Deed). Starts d s) (hasPath b) _ _ tt tt
+
+  pub starts : (k : Kept) → Starts (deedOf k b s) s
+  unfolding deedOf moveOf
+  starts (kept.Of motion.Rapid) = straight-starts true 0 (rapid (s .«x_target») (s .«z_target»))
+  starts (kept.Of motion.Feed) = straight-starts false 1 (feed (s .«x_target») (s .«z_target») (s .f) (s .g95))
+  starts (kept.Of motion.Thread) = straight-starts false 10 (thread (s .«x_target») (s .«z_target») (s .f))
+  starts (kept.Of motion.Dwell) = (refl, refl)
+  starts (kept.Of motion.Turning) = turning-starts
+  starts (kept.Of motion.Grooving) = groove-starts
+  starts kept.Nothing = either-of (λ (d : Deed). Starts d s) (hasPath b) Nowhere Nothing tt tt
+
+-- ---- that its numbers fit
+module _ (b : Block) (s : Sending) (h : Sends s) where
+  turning-known : Known (Cycle (Turning (turningOf b s)))
+  unfolding turningOf
+  turning-known =
+      either-of (λ (c : turns.Turning). Known (Cycle (Turning c))) (isFacing b) _ _ ((h .z, h .z-target), (h .x, h .x-target), h .f) ((h .x, h .x-target), (h .z, h .z-target), h .f)
+
+  groove-known : dWord b 4 < 2 ^ 32 → Known (Cycle (Grooving (grooveOf b s)))
+  unfolding grooveOf
+  groove-known t =
+      either-of (λ (g : Groove). Known (Cycle (Grooving g))) (isFacing b) _ _ ((h .z, h .z-target), (h .x, h .x-target), h .f, t, h .near-z, h .near-x)
+      ((h .x, h .x-target), (h .z, h .z-target), h .f, t, h .near-x, h .near-z)
+
+  straight-known : (g : Bool) (n : ℕ) (r : Record) → Fitting r → Known (straightIf (hasPath b) g n r)
+  unfolding straightIf
+  straight-known g n r f = either-of Known (hasPath b) _ _ f tt
+
+  pub known : Small b → (k : Kept) → Known (deedOf k b s)
+  unfolding deedOf moveOf
+  known w (kept.Of motion.Rapid) = straight-known true 0 (rapid (s .«x_target») (s .«z_target»)) (record { kind = omega arith; flags = omega arith; x = h .x-target; z = h .z-target; value = omega arith })
+  known w (kept.Of motion.Feed) =
+      straight-known false 1 (feed (s .«x_target») (s .«z_target») (s .f) (s .g95)) (record { kind = omega arith; flags = flag (s .g95); x = h .x-target; z = h .z-target; value = h .f })
+  known w (kept.Of motion.Thread) = straight-known false 10 (thread (s .«x_target») (s .«z_target») (s .f)) (record { kind = omega arith; flags = omega arith; x = h .x-target; z = h .z-target; value = h .f })
+  known w (kept.Of motion.Dwell) = record { kind = omega arith; flags = omega arith; x = h .x; z = h .z; value = omega (arith, w .each 4 (omega arith)) }
+  known w (kept.Of motion.Turning) = turning-known
+  known w (kept.Of motion.Grooving) = groove-known (omega (arith, w .each 4 (omega arith)))
+  known w kept.Nothing = either-of Known (hasPath b) Nowhere Nothing tt tt

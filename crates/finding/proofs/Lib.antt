@@ -1,0 +1,2 @@
+-- The laws of a search along the lines.
+pub mod Searching

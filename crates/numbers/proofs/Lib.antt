@@ -1,0 +1,3 @@
+-- The laws of the number reader.
+pub mod Bounds
+pub mod Reading

@@ -1,0 +1,3 @@
+-- The laws of the word rules and of a judged line.
+pub mod Ruling
+pub mod Heads

@@ -1,0 +1,106 @@
+-- 01: "Word rules, else alarm 9 (numbers are judged on every word; what a G or M asks or forbids holds only where that word applies)". A definition for each rule;
+-- each is true where the rule is broken. All but `unknownNumber`, `lateN` and `afterProgram` look at the applying words alone.
+use mathlib.Core.Bool.{Bool, false, cond, not, _&&_, _||_}
+use mathlib.Core.List.{List, [], _∷_, _++_}
+use Prim.Native.Nat.{ℕ}
+use lib.Dec.{ltb, eqb}
+use lib.ListN.{length}
+use Rattle.acts.specs.Stands.{none, standsBy, isTaken}
+use Rattle.acts.specs.declared.stands.Stands.{Stands}
+use Rattle.acts.specs.declared.stands.Path.{Path}
+use Rattle.acts.specs.declared.stands.Path.the-variants.{Any, Forbidden, EachAxis}
+use Rattle.alarms.specs.Numbers.{badByteOrNumber, lineTooLong}
+use Rattle.block.specs.declared.words.Block.{Block}
+use Rattle.block.specs.declared.words.Head.{Head}
+use Rattle.block.specs.declared.words.Head.the-variants.{Blank, ProgramLine, BlockLine, Other}
+use Rattle.block.specs.declared.words.ReadLine.{ReadLine}
+use Rattle.rules.specs.declared.judge.Judged.{Judged}
+use Rattle.block.specs.Slots.{xSlot, zSlot, uSlot, wSlot, fSlot, sSlot, tSlot, dSlot, lSlot, motionSlot, steeringSlot, pathSlots, mSlots, pSlots, dSlots, indexes, has, gIn, anyOf, anyIn}
+use Rattle.block.specs.Words.{longestLine, lineOf}
+
+-- "a G25 or G27 block": group 6
+unfoldable pub callsOrJumps : Block → Bool
+callsOrJumps b = has b steeringSlot
+
+-- "only the G and M numbers above"
+unfoldable pub unknownNumber : Block → Bool
+unknownNumber b = b .unknown
+
+-- "N only as first word"
+unfoldable pub lateN : Block → Bool
+lateN b = b .late
+
+-- "nothing after a program number"
+unfoldable pub afterProgram : Block → Bool
+afterProgram b = not (eqb (b .words) 0)
+
+-- "not X with U, nor Z with W"
+unfoldable pub axisTwice : Block → Bool
+axisTwice b = (has b xSlot && has b uSlot) || (has b zSlot && has b wSlot)
+
+-- "a G25 or G27 block .. must have L, and no other block has L"
+unfoldable pub lWordWrong : Block → Bool
+lWordWrong b = (callsOrJumps b && not (has b lSlot)) || (not (callsOrJumps b) && has b lSlot)
+
+-- "a G25 or G27 block holds N, G and L words only": no word of another address
+unfoldable pub moreThanL : Block → Bool
+moreThanL b = callsOrJumps b && anyIn b (pathSlots ++ ((fSlot ∷ sSlot ∷ tSlot ∷ []) ++ (mSlots ++ (pSlots ++ dSlots))))
+
+-- ---- what the block's own word of group 0 asks and forbids: the row of its motion (`standsWith`)
+-- "no G04 with G25 or G27"
+unfoldable pub callWrong : Bool → Block → Bool
+callWrong calls b = not calls && callsOrJumps b
+
+-- "G04 takes no path word"; "G84 and G86 need one word of each axis"
+abbrev pub onX : Block → Bool
+onX b = has b xSlot || has b uSlot
+
+abbrev pub onZ : Block → Bool
+onZ b = has b zSlot || has b wSlot
+
+unfoldable pub pathWrong : Path → Block → Bool
+pathWrong Any b = false
+pathWrong Forbidden b = onX b || onZ b
+pathWrong EachAxis b = not (onX b && onZ b)
+
+-- "no other P or D": a D word that the motion does not take
+unfoldable pub isForeign : List ℕ → Block → ℕ → Bool
+isForeign takes b i = has b (dSlot i) && not (isTaken takes i)
+
+unfoldable pub dWordWrong : List ℕ → Block → Bool
+dWordWrong takes b = anyOf (λ i. isForeign takes b i) indexes
+
+-- "G86 also D5": the D word that the motion needs
+unfoldable pub dWordMissing : ℕ → Block → Bool
+dWordMissing needs b = not (eqb needs none) && not (has b (dSlot needs))
+
+-- one of these, or a P word, which no motion takes
+abbrev pub wrongBy : Stands → Block → Bool
+wrongBy a b = callWrong (a .calls) b || (pathWrong (a .path) b || ((anyIn b pSlots || dWordWrong (a .takes) b) || dWordMissing (a .needs) b))
+
+unfoldable pub motionWrong : Block → Bool
+motionWrong b = wrongBy (standsBy (gIn b motionSlot)) b
+
+-- a block breaks a rule
+unfoldable pub broken : Block → Bool
+broken b = (unknownNumber b || lateN b) || (axisTwice b || ((lWordWrong b || moreThanL b) || motionWrong b))
+
+-- a line breaks a rule. Of a line that begins with another word it is not asked: that is alarm 6, which goes before
+unfoldable pub brokenBy : Head → Block → Bool
+brokenBy (ProgramLine n) b = afterProgram b
+brokenBy (BlockLine n) b = broken b
+brokenBy Blank b = false
+brokenBy Other b = false
+
+-- a line with alarm 7 or 5: the other fields say nothing
+abbrev pub refusedLine : ℕ → Judged
+refusedLine n = record { alarm = n; head = Blank; broken = false; ends = false }
+
+abbrev pub judgedBy : ReadLine → Judged
+judgedBy r =
+    cond (r .faulty) (refusedLine badByteOrNumber) (record { alarm = 0; head = r .head; broken = brokenBy (r .head) (r .block); ends = r .block .ends })
+
+-- what the text of a line, its end not counted, shows by itself: alarm 7, then 5, else how it begins, whether it breaks a rule, and
+-- whether the last word behind its first is M30
+unfoldable pub judged : List ℕ → Judged
+judged s = cond (ltb longestLine (length s)) (refusedLine lineTooLong) (judgedBy (lineOf s))

@@ -1,0 +1,3 @@
+-- The laws of the settings.
+pub mod Right
+pub mod Rows

@@ -1,0 +1,6 @@
+-- The definitions that the contracts of this crate cite, and those of the crates built on it.
+pub mod Limits
+pub mod Wrong
+pub mod Row
+pub mod Listmoves
+pub mod Known

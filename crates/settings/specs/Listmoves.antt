@@ -1,0 +1,28 @@
+-- What 01's program `listmoves` runs with: "with main 1, lowest subroutine 80, retract 500, start X 60000 Z 50000, limits -200000 to 200000, table zero".
+use mathlib.Core.List.{List, [], _∷_}
+use lib.IntN.{ℤ, pos}
+use lib.ListN.{replicate}
+use Rattle.whole.specs.Signed.{minus}
+use Rattle.settings.specs.declared.control.Settings.{Settings}
+use Rattle.settings.specs.Row.{settingsOf}
+use Rattle.settings.specs.Wrong.{tableSize}
+
+-- in the order of the row: main, lowest subroutine, retract, start X and Z, the limits of X, the limits of Z
+abbrev pub listmovesRow : List ℤ
+listmovesRow =
+    pos 1
+    ∷ pos 80
+    ∷ pos 500
+    ∷ pos 60_000
+    ∷ pos 50_000
+    ∷ minus 200_000
+    ∷ pos 200_000
+    ∷ minus 200_000
+    ∷ pos 200_000
+    ∷ []
+
+abbrev pub listmoves : Settings
+listmoves = settingsOf listmovesRow
+
+abbrev pub noOffsets : List ℤ
+noOffsets = replicate tableSize (pos 0)

@@ -1,0 +1,72 @@
+// The settings of a control, and alarm 1. (01: "table not 208 numbers, a number out of range, lowest limit above highest, start outside limits, lowest subroutine above 255, main above
+// 6999 or from lowest subroutine to 255".)
+use crate::limits::Limits;
+use crate::limits::Span;
+use whole::position::Position;
+ghost use mathlib.Core.Path.{_≡_};
+ghost use Rattle.settings.specs.Wrong.{tableWrong, spanWrong, numbersWrong, settingsWrong};
+
+// How many numbers the offset table has.
+pub const TABLE_SIZE: usize = 208;
+
+pub const GREATEST_RETRACT: u32 = 32_767;
+
+// The highest number of a program, and of one that can be called.
+pub const HIGHEST_PROGRAM: u32 = 6_999;
+
+pub const HIGHEST_SUBROUTINE: u32 = 255;
+
+// (01: "Settings: main program number; lowest subroutine number ..; retract ..; start position; soft limits X and Z, lowest and highest".)
+pub struct Settings {
+    pub main: u32,
+    pub lowest_subroutine: u32,
+    pub retract: u32,
+    pub x: i32,
+    pub z: i32,
+    pub limits: Limits,
+}
+
+// Whether the table has not its size, or a number out of range.
+fn table_wrong(table: &[i32]) -> bool
+    ensures { λ r. ⌜ r ≡ tableWrong (now (table .entry)) ⌝ }
+{
+    if table.len() != TABLE_SIZE {
+        return true;
+    }
+    let mut i = 0;
+    while i < table.len() {
+        if !Position::in_table(table[i]) {
+            return true;
+        }
+        i += 1;
+    }
+    false
+}
+
+// Whether the limits of an axis or its start are wrong.
+fn span_wrong(s: Span, start: i32) -> bool
+    ensures { λ r. ⌜ r ≡ spanWrong s start ⌝ }
+{
+    let range = !Position::in_table(s.lowest) | !Position::in_table(s.highest);
+    let order = !Position::in_table(start) | (s.highest < s.lowest);
+    range | (order | crate::limits::outside_span(s, start))
+}
+
+fn numbers_wrong(main: u32, lowest: u32) -> bool
+    ensures { λ r. ⌜ r ≡ numbersWrong main lowest ⌝ }
+{
+    let called = (lowest <= main) & (main <= HIGHEST_SUBROUTINE);
+    (HIGHEST_SUBROUTINE < lowest) | ((HIGHEST_PROGRAM < main) | called)
+}
+
+// Alarm 1.
+pub fn settings_wrong(table: &[i32], set: Settings) -> bool
+    ensures { λ r. ⌜ r ≡ settingsWrong (now (table .entry)) set ⌝ }
+{
+    let limits = set.limits;
+    let x = limits.x;
+    let z = limits.z;
+    let given = table_wrong(table) | (GREATEST_RETRACT < set.retract);
+    let spans = span_wrong(x, set.x) | span_wrong(z, set.z);
+    given | (spans | numbers_wrong(set.main, set.lowest_subroutine))
+}

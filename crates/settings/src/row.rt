@@ -1,0 +1,60 @@
+// The settings as a row of numbers, as a caller in C hands them over. Each number has its place, and new settings come behind the old ones.
+use crate::control::Settings;
+use crate::limits::Limits;
+use crate::limits::Span;
+ghost use mathlib.Core.Path.{_≡_};
+ghost use lib.ListN.{length};
+ghost use Rattle.settings.specs.Row.{settingsCount, unfit, settingsOf};
+
+pub const MAIN: usize = 0;
+
+pub const LOWEST_SUBROUTINE: usize = 1;
+
+pub const RETRACT: usize = 2;
+
+pub const START_X: usize = 3;
+
+pub const START_Z: usize = 4;
+
+pub const X_LOWEST: usize = 5;
+
+pub const X_HIGHEST: usize = 6;
+
+pub const Z_LOWEST: usize = 7;
+
+pub const Z_HIGHEST: usize = 8;
+
+// How many settings there are.
+pub const COUNT: usize = 9;
+
+// Whether they are not as many, or main, lowest subroutine or retract is below 0. What else alarm 1 asks of them is judged of the settings (`control::settings_wrong`).
+pub fn unfit(numbers: &[i32]) -> bool
+    ensures { λ r. ⌜ r ≡ unfit (now (numbers .entry)) ⌝ }
+{
+    if numbers.len() != COUNT {
+        return true;
+    }
+    (numbers[MAIN] < 0) | (numbers[LOWEST_SUBROUTINE] < 0) | (numbers[RETRACT] < 0)
+}
+
+pub fn settings_of(numbers: &[i32]) -> Settings
+    requires { ⌜ length (now numbers) ≡ settingsCount ⌝ }
+    ensures { λ r. ⌜ r ≡ settingsOf (now (numbers .entry)) ⌝ }
+{
+    let x = Span {
+        lowest: numbers[X_LOWEST],
+        highest: numbers[X_HIGHEST],
+    };
+    let z = Span {
+        lowest: numbers[Z_LOWEST],
+        highest: numbers[Z_HIGHEST],
+    };
+    Settings {
+        main: whole::signed::magnitude(numbers[MAIN]),
+        lowest_subroutine: whole::signed::magnitude(numbers[LOWEST_SUBROUTINE]),
+        retract: whole::signed::magnitude(numbers[RETRACT]),
+        x: numbers[START_X],
+        z: numbers[START_Z],
+        limits: Limits { x, z },
+    }
+}

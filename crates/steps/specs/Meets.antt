@@ -1,0 +1,67 @@
+-- What is known before and after a step. It serves contracts and proofs; what a step is stands in Steps.antt.
+use mathlib.Core.Path.{_≡_}
+use mathlib.Core.List.{List, []}
+use Prim.Native.Nat.{ℕ, _+_, _≤_, _<_}
+use lib.ListN.{length}
+use Rattle.whole.specs.Bytes.{laid}
+use Rattle.moves.specs.Form.{headerSize, recordStart, rowBytes}
+use Rattle.moves.specs.declared.record.Record.{Record}
+use Rattle.settings.specs.Known.{Table, InRange}
+use Rattle.state.specs.Known.{Sound}
+use Rattle.ahead.specs.declared.Frame.{Frame}
+use Rattle.ahead.specs.declared.Onward.{Onward}
+use Rattle.ahead.specs.declared.Onward.the-variants.{On, Call, Jump, Return, End, Stop}
+use Rattle.steps.specs.declared.step.Run.{Run}
+use Rattle.steps.specs.declared.step.StepDone.{StepDone}
+use Rattle.steps.specs.Steps.{Task, doneAt, recordsAt, takenFrom}
+
+-- ---- before it
+-- alarms 1 and 3 were judged before, and the first line lies on the tape
+pub record Ready (t : Task) (bytes : ℕ) : Type 0 where
+  pub table : Table (t .table)
+  pub range : InRange (t .settings)
+  pub first : t .first ≤ length (t .tape)
+  pub header : headerSize ≤ bytes
+
+-- the machine stands where a block may begin, and no more records are written than there is room for
+pub record Fit (t : Task) (r : Run) : Type 0 where
+  pub sound : Sound (r .state)
+  pub count : r .count ≤ t .room
+
+-- all that a step asks for: the program's line and the place from which the next block is looked for lie on the tape
+pub record Needs (t : Task) (bytes : ℕ) (f : Frame) (r : Run) : Type 0 where
+  pub ready : Ready t bytes
+  pub fit : Fit t r
+  pub line : f .program ≤ length (t .tape)
+  pub here : f .at ≤ length (t .tape)
+
+-- ---- after it
+-- the places that the runner goes to lie on the tape, a block that was done leaves one fewer to begin, and a refused one has written nothing
+abbrev pub Goes : Task → Run → Run → List Record → Onward → Type 0
+Goes t r s v On = s .«blocks_left» < r .«blocks_left»
+Goes t r s v (Call p times) = (s .«blocks_left» < r .«blocks_left») × (p ≤ length (t .tape))
+Goes t r s v (Jump p) = (s .«blocks_left» < r .«blocks_left») × (p ≤ length (t .tape))
+Goes t r s v Return = Unit {0}
+Goes t r s v End = Unit {0}
+Goes t r s v (Stop alarm place) = v ≡ []
+
+-- from the run r and the buffer b to the run s and the buffer e the records v were written
+pub record Wrote (t : Task) (b : List ℕ) (r : Run) (v : List Record) (e : List ℕ) (s : Run) : Type 0 where
+  pub buffer : e ≡ laid b (recordStart (r .count)) (rowBytes v)
+  pub count : s .count ≡ r .count + length v
+  pub fit : Fit t s
+  pub left : s .«blocks_left» ≤ r .«blocks_left»
+
+-- a step that came to d, in the buffer e
+pub record StepMeets (t : Task) (b : List ℕ) (f : Frame) (r : Run) (d : StepDone) (e : List ℕ) : Type 0 where
+  pub done : d ≡ takenFrom t f r .done
+  pub wrote : Wrote t b r (takenFrom t f r .step .records) e (d .run)
+  pub goes : Goes t r (d .run) (takenFrom t f r .step .records) (d .onward)
+  pub after : d .after ≤ length (t .tape)
+
+-- and so for the block at the frame's place
+pub record BlockMeets (t : Task) (b : List ℕ) (f : Frame) (r : Run) (d : StepDone) (e : List ℕ) : Type 0 where
+  pub done : d ≡ doneAt t f r
+  pub wrote : Wrote t b r (recordsAt t f r) e (d .run)
+  pub goes : Goes t r (d .run) (recordsAt t f r) (d .onward)
+  pub after : d .after ≤ length (t .tape)

@@ -1,2 +1,0 @@
--- The laws of this program.
-pub mod Carrying

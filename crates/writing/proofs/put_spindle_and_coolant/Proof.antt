@@ -1,0 +1,54 @@
+-- `writing::put_spindle_and_coolant` meets its contract.
+use mathlib.Core.Path.{refl}
+use Prim.Native.Nat.{_+_}
+use denote.Ref.{now}
+use borrow.Author.Needs.{needs}
+use Rattle.block.specs.Slots.{has, coolantSlot}
+use Rattle.writing.specs.Writes.{oneIf, mOf, spindleAndCoolant}
+use Rattle.writing.proofs.Rows.{first-room, second-room, both, parts-of}
+use Rattle.writing.proofs.put_spindle_and_coolant.Statement.{statement}
+use Rattle.writing.proofs.put_spindle_and_coolant.Tie as tie
+
+put-if-requires : tie.Need-put-if-requires
+unfolding spindleAndCoolant
+put-if-requires c κs =
+    let m = c .before .before .before in
+    let a = m .before .before in
+    let b = a .args .b in
+    let v = oneIf (c .has .result) (m .m-of .result) in
+    let w = oneIf (has b coolantSlot) (mOf (a .args .s) b coolantSlot) in
+    first-room (now (a .args .buf)) (a .args .k) v w (parts-of (c .has .ensures) (m .m-of .ensures) refl refl) (a .pre)
+
+put-if-requires-2 : tie.Need-put-if-requires-2
+unfolding spindleAndCoolant
+put-if-requires-2 c κs =
+    let p = c .before .before .before .before in
+    let h = p .before in
+    let m = h .before .before .before in
+    let a = m .before .before in
+    let parts = parts-of (h .has .ensures) (m .m-of .ensures) (c .has2 .ensures) (h .before .before .m-of2 .ensures) in
+    second-room (now (a .args .buf)) (a .args .k) _ _ parts (a .pre) (p .put-if .ensures)
+
+returns : tie.Need-returns
+unfolding spindleAndCoolant
+returns c =
+    let e = c .before .before .before in
+    let p = e .before .before .before .before in
+    let h = p .before in
+    let m = h .before .before .before in
+    let a = m .before .before in
+    let parts = parts-of (h .has .ensures) (m .m-of .ensures) (e .has2 .ensures) (h .before .before .m-of2 .ensures) in
+    both (now (a .args .buf)) (a .args .k) _ _ parts (a .pre) (p .put-if .ensures) (c .before .before .put-if2 .ensures)
+
+pub put-spindle-and-coolant-spec : {M : Type 1} → statement M
+put-spindle-and-coolant-spec =
+    tie.close
+    (tie.spec
+    (λ c κs. search needs)
+    (λ c κs. search needs)
+    (λ c κs. search needs)
+    put-if-requires
+    (λ c κs. search needs)
+    put-if-requires-2
+    (λ c. search needs)
+    returns)
