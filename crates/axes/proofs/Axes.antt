@@ -3,18 +3,14 @@
 -- Assumes nothing.
 use mathlib.Core.Path.{_≡_, refl, sym, ap, _∙_}
 use mathlib.Core.Bool.{Bool, cond}
-use mathlib.Core.List.{List}
 use Prim.Native.Nat.{ℕ, zero, suc, _-_, _≤_}
 use native.Mathlib.Omega.{arith}
 use lib.IntN.{ℤ, pos, negsuc, negℤ, natAbs, _+ℤ_, _-ℤ_}
 use mir.Syntax.{w32}
 use mir.Val.{SFits}
-use Rattle.whole.specs.Bytes.{laid}
 use Rattle.whole.specs.Signed.{sideOf, along}
 use Rattle.whole.proofs.Integers.{whole, add-in, sub-in, up-neg, down-neg}
 use Rattle.whole.proofs.Sides.{toward}
-use Rattle.moves.specs.Form.{recordBytes}
-use Rattle.moves.specs.declared.record.Record.{Record}
 use Rattle.axes.specs.Axis.{distance, side, net, allowanceLine}
 use Rattle.axes.specs.declared.axis.Axis.{Axis}
 
@@ -36,8 +32,3 @@ line-fits a f g m h = toward f g m (omega arith)
 -- what was made on one way of a test is what the test picks
 pub picked : {A : Type 0} {f t : Bool} {r : A} (x y : A) → f ≡ t → r ≡ cond t x y → r ≡ cond f x y
 picked x y e q = q ∙ ap (λ (t : Bool). cond t x y) (sym e)
-
--- and a record that was written on one way is the record that the test picks, written
-pub picked-laid : {f t : Bool} {u : List ℕ} {r : Record} (b : List ℕ) (at : ℕ) (x y : Record)
-    → f ≡ t → r ≡ cond t x y → u ≡ laid b at (recordBytes r) → u ≡ laid b at (recordBytes (cond f x y))
-picked-laid b at x y e q w = w ∙ ap (λ (r : Record). laid b at (recordBytes r)) (picked x y e q)

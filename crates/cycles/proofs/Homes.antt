@@ -1,4 +1,4 @@
--- A cycle ends where it began: a law for each cycle, and one for the family.
+-- A cycle ends where it began. (The two parts are those of `demands`, `Standing`; their places are `turning` and `grooving`.)
 -- Assumes nothing.
 use mathlib.Core.Path.{_≡_, refl, ap, _∙_}
 use mathlib.Core.List.{List, [], _∷_, _++_}

@@ -10,6 +10,7 @@ use lib.ListN.{length}
 use Rattle.moves.specs.Form.{AllFitting}
 use Rattle.turning.specs.declared.cycle.Turning as turns
 use Rattle.turning.specs.Turning as turn
+use Rattle.turning.proofs.Asked.{long-enough}
 use Rattle.turning.proofs.Counts as turn-laws
 use Rattle.grooving.specs.declared.groove.Groove.{Groove}
 use Rattle.grooving.specs.Grooving as groove
@@ -19,7 +20,6 @@ use Rattle.cycles.specs.declared.Cycle.{Cycle}
 use Rattle.cycles.specs.declared.Cycle.the-variants.{Turning, Grooving}
 use Rattle.cycles.specs.Cycle.{wrong, records}
 use Rattle.cycles.specs.Known.{Known}
-use Rattle.cycles.proofs.Right.{long-enough}
 
 -- what holds of every such cycle that is not wrong
 pub record Lawful (c : Cycle) : Type 0 where

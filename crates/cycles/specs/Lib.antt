@@ -2,3 +2,4 @@
 pub mod Feeds
 pub mod Cycle
 pub mod Known
+pub mod Cursor

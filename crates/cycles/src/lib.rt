@@ -1,17 +1,21 @@
 // The cycles as one family. Whoever runs a block asks a cycle what is asked here, and never which cycle it is.
 // A new cycle is a crate of its own, a row in the table of `codes` and in that of `acts`, the clause of `deeds` that gives it its numbers, and one arm in each function below.
+pub mod cursor;
+
+use crate::cursor::Cursor;
 use grooving::groove::Groove;
 use settings::limits::Limits;
 use turning::cycle::Turning;
 ghost use mathlib.Core.Path.{_≡_};
 ghost use mathlib.Core.Bool.{false};
-ghost use Prim.Native.Nat.{_+_, _≤_};
+ghost use Prim.Native.Nat.{_+_, _*_, _≤_};
 ghost use lib.ListN.{length};
 ghost use Rattle.whole.specs.Bytes.{laid};
-ghost use Rattle.moves.specs.Form.{recordStart, rowBytes};
+ghost use Rattle.moves.specs.Form.{recordSize, recordStart, rowBytes};
 ghost use Rattle.axes.specs.Limits.{anyOutside};
 ghost use Rattle.cycles.specs.Cycle.{wrong, leastFeed, records};
 ghost use Rattle.cycles.specs.Known.{Known};
+ghost use Rattle.cycles.specs.Cursor.{restOf, Sound};
 
 // "A move by G01, G84 or G86 needs 1 to 9999, by G33 10 to 9999."
 pub const LEAST_FEED: u32 = 1;
@@ -30,7 +34,7 @@ pub fn is_wrong(c: Cycle) -> bool
     ensures { λ r. ⌜ r ≡ wrong c ⌝ }
 {
     match c {
-        Cycle::Turning(t) => turning::cycle::too_short(t),
+        Cycle::Turning(t) => turning::cycle::is_wrong(t),
         Cycle::Grooving(g) => grooving::groove::is_wrong(g),
     }
 }
@@ -72,8 +76,23 @@ pub fn put_cycle(buf: &mut [u8], k: usize, c: Cycle)
     requires { ⌜ (wrong c ≡ false) × (recordStart (k + length (records c)) ≤ length (now buf)) ⌝ }
     ensures { λ _. ⌜ now (buf .exit) ≡ laid (now (buf .entry)) (recordStart k) (rowBytes (records c)) ⌝ }
 {
-    match c {
-        Cycle::Turning(t) => turning::passes::put_turning(buf, k, t),
-        Cycle::Grooving(g) => grooving::plunges::put_grooving(buf, k, g),
+    let opened = cursor::open(c);
+    let first = moves::HEADER_SIZE + moves::RECORD_SIZE * k;
+    put_rest(buf, first, opened);
+}
+
+// Writes all that is left of a cycle, its next record's first byte at `first`: the one loop that writes, whichever cycle it is.
+fn put_rest(buf: &mut [u8], first: usize, c: Cursor)
+    requires { ⌜ Sound c × (first + recordSize * length (restOf c) ≤ length (now buf)) ⌝ }
+    ensures { λ _. ⌜ now (buf .exit) ≡ laid (now (buf .entry)) first (rowBytes (restOf c)) ⌝ }
+{
+    let mut now = c;
+    let mut at = first;
+    while !cursor::is_over(now) {
+        let handed = cursor::next(now);
+        let record = handed.record;
+        moves::list::put_record(&mut buf[at..], record);
+        now = handed.rest;
+        at += moves::RECORD_SIZE;
     }
 }

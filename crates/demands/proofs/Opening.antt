@@ -27,10 +27,10 @@ use Rattle.deeds.specs.declared.deed.Deed.the-variants as deed
 use Rattle.asking.specs.Judge.{doing}
 use Rattle.deeds.specs.Known.{Right}
 use Rattle.cycles.specs.declared.Cycle.the-variants as cycle
-use Rattle.cycles.proofs.Right.{long-enough}
 use Rattle.turning.specs.Turned.{Turned}
 use Rattle.turning.specs.Turning.{turning}
 use Rattle.turning.specs.declared.cycle.Turning.{Turning}
+use Rattle.turning.proofs.Asked.{long-enough}
 use Rattle.turning.proofs.Turned.{turned}
 use Rattle.settings.specs.declared.control.Settings.{Settings}
 use Rattle.writing.specs.Writes.{oneIf, speedOf, toolOf, mOf, speedAndTool, spindleAndCoolant, done, stops, stopping, writes}

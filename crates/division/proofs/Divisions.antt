@@ -1,14 +1,13 @@
 -- The even division: its pieces make the length, none is above the greatest piece, no row is shorter, and none as short has a smaller greatest piece.
 -- Assumes nothing.
-use mathlib.Core.Path.{_≡_, refl, ap, _∙_, subst}
+use mathlib.Core.Path.{_≡_, ap, _∙_, subst}
 use mathlib.Core.List.{List, [], _∷_, _++_}
-use Prim.Native.Nat.{ℕ, zero, suc, _+_, _-_, _*_, _/_, _%_, _≤_, _<_, min, max, zero-le}
+use Prim.Native.Nat.{ℕ, zero, suc, _+_, _-_, _*_, _/_, _%_, _≤_, _<_, max, zero-le}
 use native.Mathlib.Nat.{mul-le-mul-left, div-le-of-le-mul, div-lt-iff-lt-mul, lt-mul-div-succ, div-add-mod, mod-lt, add-div-right}
-use native.Mathlib.Numerals.{add-one}
 use native.Mathlib.Decide.{decLe}
 use native.Mathlib.Omega.{arith}
-use lib.ListN.{length, take, getD, replicate, length-append, length-replicate, getD-replicate}
-use Rattle.division.specs.Division.{count, pieces, divided, sum, greatest, lineAfter, Evenly}
+use lib.ListN.{length, replicate, length-append, length-replicate}
+use Rattle.division.specs.Division.{count, pieces, divided, sum, greatest, Evenly}
 
 -- ---- sums and greatest pieces of repeats, and of rows joined
 sum-append : (a b : List ℕ) → sum (a ++ b) ≡ sum a + sum b
@@ -92,67 +91,3 @@ evenly e d pe pd = record {
 
     pn : 0 < n
     pn = count-above e d pe pd
-
--- ---- where the first k pieces end
-same : (m k q : ℕ) → k ≤ m → sum (take k (replicate m q)) ≡ k * q
-same m zero q h = omega arith
-same zero (suc k) q h = absurd (omega arith)
-same (suc m) (suc k) q h = omega (arith, same m k q (omega arith))
-
-line-of : (r m q k : ℕ) → k ≤ r + m → sum (take k (replicate r (q + 1) ++ replicate m q)) ≡ k * q + min k r
-line-of zero m q k h = omega (arith, same m k q (omega arith))
-line-of (suc r) m q zero h = omega arith
-line-of (suc r) m q (suc k) h = omega (arith, line-of r m q k (omega arith))
-
-pub line-is : (e n k : ℕ) → 0 < n → k ≤ n → lineAfter e n k ≡ k * (e / n) + min k (e % n)
-unfolding pieces lineAfter
-line-is e n k p h = line-of (e % n) (n - e % n) (e / n) k (omega (arith, mod-lt e p))
-
-pub line-first : (e n : ℕ) → lineAfter e n 0 ≡ 0
-unfolding lineAfter
-line-first e n = refl
-
--- the last line is the whole length
-pub line-last : (e n : ℕ) → 0 < n → lineAfter e n n ≡ e
-line-last e n p = line-is e n n p (omega arith) ∙ omega (arith, div-add-mod e n, mod-lt e p)
-
--- each line is the one before and one piece more
-pub line-next : (e n k : ℕ) → lineAfter e n (k + 1) ≡ lineAfter e n k + getD (pieces e n) k 0
-unfolding lineAfter
-line-next e n k = rw add-one (go (pieces e n) k)
-  where
-    go : (p : List ℕ) (k : ℕ) → sum (take (suc k) p) ≡ sum (take k p) + getD p k 0
-    go [] zero = refl
-    go [] (suc k) = refl
-    go (x ∷ p) zero = omega arith
-    go (x ∷ p) (suc k) = omega (arith, go p k)
-
--- no line lies past the length
-pub line-within : (e n k : ℕ) → 0 < n → lineAfter e n k ≤ e
-unfolding lineAfter
-line-within e n k p = subst (λ (t : ℕ). sum (take k (pieces e n)) ≤ t) (pieces-sum e n p) (go (pieces e n) k)
-  where
-    go : (p : List ℕ) (k : ℕ) → sum (take k p) ≤ sum p
-    go [] zero = zero-le
-    go [] (suc k) = zero-le
-    go (x ∷ p) zero = zero-le
-    go (x ∷ p) (suc k) = omega (arith, go p k)
-
--- ---- the pieces themselves
-pub piece-first : (e n k : ℕ) → k < e % n → getD (pieces e n) k 0 ≡ e / n + 1
-unfolding pieces
-piece-first e n k h = go (e % n) (n - e % n) (e / n) k h
-  where
-    go : (r m q k : ℕ) → k < r → getD (replicate r (q + 1) ++ replicate m q) k 0 ≡ q + 1
-    go zero m q k h = absurd (omega arith)
-    go (suc r) m q zero h = refl
-    go (suc r) m q (suc k) h = go r m q k (omega arith)
-
-pub piece-later : (e n k : ℕ) → e % n ≤ k → k < n → getD (pieces e n) k 0 ≡ e / n
-unfolding pieces
-piece-later e n k h l = go (e % n) (n - e % n) (e / n) k h (omega arith)
-  where
-    go : (r m q k : ℕ) → r ≤ k → k < r + m → getD (replicate r (q + 1) ++ replicate m q) k 0 ≡ q
-    go zero m q k h l = getD-replicate m k q 0 (omega arith)
-    go (suc r) m q zero h l = absurd (omega arith)
-    go (suc r) m q (suc k) h l = go r m q k (omega arith) (omega arith)

@@ -1,3 +1,4 @@
 -- The laws of this crate, for the crates built on it.
 pub mod Divisions
+pub mod Carrying
 pub mod RuledOut

@@ -2,7 +2,7 @@
 use mathlib.Core.Path.{_≡_}
 use mathlib.Core.List.{List, [], _∷_, _++_}
 use Prim.Native.Nat.{ℕ, _+_, _-_, _/_, _%_, _≤_, max}
-use lib.ListN.{length, take, replicate}
+use lib.ListN.{length, replicate}
 
 -- "n = E/d rounded up"
 unfoldable pub count : ℕ → ℕ → ℕ
@@ -25,10 +25,6 @@ sum (x ∷ xs) = x + sum xs
 abbrev pub greatest : List ℕ → ℕ
 greatest [] = 0
 greatest (x ∷ xs) = max x (greatest xs)
-
--- the line on which the first k of the n pieces of e end, measured from where the length begins
-unfoldable pub lineAfter : ℕ → ℕ → ℕ → ℕ
-lineAfter e n k = sum (take k (pieces e n))
 
 -- A ROW DIVIDES A LENGTH EVENLY, as demand 3 says it. The row's pieces, against every other row of whole numbers that adds up to the length:
 pub record Evenly (length-to-divide greatest-piece : ℕ) (row : List ℕ) : Type 0 where

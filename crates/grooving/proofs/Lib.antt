@@ -5,4 +5,4 @@ pub mod Rows
 pub mod Each
 pub mod Counts
 pub mod Reach
-pub mod Writing
+pub mod Cursors

@@ -4,8 +4,9 @@ use settings::limits::Limits;
 ghost use mathlib.Core.Path.{_≡_};
 ghost use mathlib.Core.Bool.{false};
 ghost use Prim.Native.Nat.{_<_};
+ghost use lib.ListN.{length};
 ghost use Rattle.axes.specs.Limits.{anyOutside};
-ghost use Rattle.grooving.specs.Grooving.{lengthOf, wrong, stepCount, cutCount, plungeCount, lastWidth, recordCount, grooving};
+ghost use Rattle.grooving.specs.Grooving.{lengthOf, wrong, stepCount, cutCount, plungeCount, lastWidth, grooving};
 
 // Where an axis stands and where the block sends it.
 pub struct Way {
@@ -95,7 +96,7 @@ pub fn plunge_count(g: Groove) -> u64
 // apart that the count would not fit.
 pub fn record_count(g: Groove) -> u64
     requires { ⌜ (wrong g ≡ false) × (lengthOf (g .depth) < 100_000_000) × (lengthOf (g .width) < 100_000_000) ⌝ }
-    ensures { λ r. ⌜ r ≡ recordCount g ⌝ }
+    ensures { λ r. ⌜ r ≡ length (grooving g) ⌝ }
 {
     let steps = step_count(g) as u64;
     let plunge = plunge_count(g);

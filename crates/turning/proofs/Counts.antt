@@ -28,7 +28,7 @@ use Rattle.turning.specs.Turning.{passCount, row, passFor, passOn, passe
 use Rattle.turning.proofs.Turned.{some-passes}
 
 -- ---- how many
-pub pass-length : (p : Pass) (l : ℤ) → length (passOn p l) ≡ 4
+pass-length : (p : Pass) (l : ℤ) → length (passOn p l) ≡ 4
 unfolding passOn
 pass-length p l = refl
 
@@ -88,7 +88,7 @@ few-passes e (suc d) h =
     rw (ne-eqb (suc d) 0 (λ z. absurd (omega arith))) (omega (arith, count-is e (suc d) h (omega arith), div-le-self (e - 1) (suc d)))
 
 -- two places that fit lie less than 2 ^ 32 apart
-apart : (a b : ℤ) → SFits w32 a → SFits w32 b → natAbs (a -ℤ b) < 2 ^ 32
+pub apart : (a b : ℤ) → SFits w32 a → SFits w32 b → natAbs (a -ℤ b) < 2 ^ 32
 apart a b f g = let x = range f in let y = range g in let d = sub-in a b in let m = abs (a -ℤ b) in omega whole
 
 pub few-turning : (c : Turning) → Stands (c .infeed) → 0 < net (c .infeed) → recordCount c < 4 * 2 ^ 32

@@ -2,6 +2,7 @@
 pub mod Examples
 pub mod Turned
 pub mod RuledOut
+pub mod Asked
 pub mod Reach
 pub mod Counts
-pub mod Writing
+pub mod Cursors

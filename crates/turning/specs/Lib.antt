@@ -1,3 +1,4 @@
 -- The definitions that the contracts of this crate cite, and those of the crates built on it.
 pub mod Turning
 pub mod Turned
+pub mod Cursor

@@ -3,10 +3,12 @@
 use axes::axis::Axis;
 use settings::limits::Limits;
 ghost use mathlib.Core.Path.{_≡_};
+ghost use mathlib.Core.Bool.{false};
 ghost use Prim.Native.Nat.{_<_};
-ghost use Rattle.axes.specs.Axis.{net};
+ghost use lib.ListN.{length};
+ghost use Rattle.axes.specs.Axis.{net, allowanceLine};
 ghost use Rattle.axes.specs.Limits.{anyOutside};
-ghost use Rattle.turning.specs.Turning.{tooShort, passCount, recordCount, turning};
+ghost use Rattle.turning.specs.Turning.{tooShort, passCount, turning};
 
 // `division` is the greatest pass on the infeed axis, 0 for one pass; `f` and `g95` are those of its feeds.
 pub struct Turning {
@@ -19,7 +21,7 @@ pub struct Turning {
 }
 
 // "E and the shortened length must be at least 1" (alarm 19).
-pub fn too_short(c: Turning) -> bool
+pub fn is_wrong(c: Turning) -> bool
     ensures { λ r. ⌜ r ≡ tooShort c ⌝ }
 {
     let infeed = c.infeed;
@@ -40,8 +42,8 @@ pub fn pass_count(e: u32, division: u32) -> u32
 
 // How many records the cycle has (alarm 20). Its lengths were asked for before (19).
 pub fn record_count(c: Turning) -> u64
-    requires { ⌜ 0 < net (c .infeed) ⌝ }
-    ensures { λ r. ⌜ r ≡ recordCount c ⌝ }
+    requires { ⌜ tooShort c ≡ false ⌝ }
+    ensures { λ r. ⌜ r ≡ length (turning c) ⌝ }
 {
     let infeed = c.infeed;
     let e = axes::axis::net_of(infeed);
@@ -49,16 +51,25 @@ pub fn record_count(c: Turning) -> u64
     4 * (n as u64)
 }
 
+// The line of the last pass.
+fn last_line(c: Turning) -> i32
+    requires { ⌜ 0 < net (c .infeed) ⌝ }
+    ensures { λ r. ⌜ r ≡ allowanceLine (c .infeed) ⌝ }
+{
+    let infeed = c.infeed;
+    axes::axis::line_of(infeed)
+}
+
 // Whether a move of the cycle ends outside the limits (alarm 18), asked at its two extreme points: the start, and the last pass line at the end line.
 pub fn ends_outside(c: Turning, l: Limits) -> bool
-    requires { ⌜ (0 < net (c .infeed)) × (0 < net (c .path)) ⌝ }
+    requires { ⌜ tooShort c ≡ false ⌝ }
     ensures { λ r. ⌜ r ≡ anyOutside l (turning c) ⌝ }
 {
     let infeed = c.infeed;
     let path = c.path;
     let facing = c.facing;
     let at_start = axes::limits::is_outside_to(l, facing, infeed.start, path.start);
-    let last = axes::axis::line_of(infeed);
+    let last = last_line(c);
     let end = axes::axis::line_of(path);
     at_start | axes::limits::is_outside_to(l, facing, last, end)
 }

@@ -1,7 +1,7 @@
 -- `cycles::ends_outside` meets its contract.
 use mathlib.Core.Path.{_∙_}
 use borrow.Author.Needs.{needs}
-use Rattle.cycles.proofs.Right.{right, asks, turning-long}
+use Rattle.cycles.proofs.Matched.{right, asks}
 use Rattle.cycles.proofs.ends_outside.Statement.{statement}
 use Rattle.cycles.proofs.ends_outside.Tie as tie
 
@@ -10,7 +10,7 @@ ends-outside-spec =
     tie.close
     (tie.spec
     (λ c. search needs)
-    (λ c κs. turning-long (c .before .c .given .1) (c .before .before .before .pre))
+    (λ c κs. right (c .before .c .given .1) (c .before .before .before .pre))
     (λ c. search needs)
     (λ c κs. right (c .before .c2 .given .1) (c .before .before .before .pre))
     (λ c. c .ends-outside .ensures ∙ asks (c .before .before .c .given .1) (c .before .before .before .before .args .l))

@@ -13,5 +13,5 @@ is-wrong-spec =
     (λ c κs. search needs)
     (λ c. search needs)
     (λ c κs. search needs)
-    (λ c. c .too-short .ensures ∙ ap wrong (sym (c .before .before .c .given .1)))
-    (λ c. c .is-wrong .ensures ∙ ap wrong (sym (c .before .before .c2 .given .1))))
+    (λ c. c .is-wrong .ensures ∙ ap wrong (sym (c .before .before .c .given .1)))
+    (λ c. c .is-wrong2 .ensures ∙ ap wrong (sym (c .before .before .c2 .given .1))))

@@ -1,35 +1,29 @@
 -- `cycles::put_cycle` meets its contract.
+use mathlib.Core.Path.{ap, _∙_}
+use mathlib.Core.List.{List}
+use native.Mathlib.Omega.{arith}
 use lib.ListN.{length}
-use denote.Ref.{now}
 use borrow.Author.Needs.{needs}
-use Rattle.moves.specs.Form.{recordStart}
-use Rattle.cycles.proofs.Right.{written, turning-room, groove-room}
+use Rattle.whole.specs.Bytes.{laid}
+use Rattle.moves.specs.declared.record.Record.{Record}
+use Rattle.moves.specs.Form.{recordStart, rowBytes}
 use Rattle.cycles.proofs.put_cycle.Statement.{statement}
 use Rattle.cycles.proofs.put_cycle.Tie as tie
+
+put-rest-requires : tie.Need-put-rest-requires
+put-rest-requires c κs =
+    let o = c .before in
+    let s = o .before .before in
+    (o .«open» .ensures .1, omega (arith, ap length (o .«open» .ensures .0), s .pre .1))
+
+returns : tie.Need-returns
+returns c =
+    let r = c .before .before in
+    let o = r .before .before in
+    let s = o .before .before in
+    r .put-rest .ensures ∙ ap (λ (l : List Record). laid (s .args .buf .now) (recordStart (s .args .k)) (rowBytes l)) (o .«open» .ensures .0)
 
 pub put-cycle-spec : {M : Type 1} → statement M
 put-cycle-spec =
     tie.close
-    (tie.spec
-    (λ c. search needs)
-    (λ c κs.
-    let m = c .before .before in
-    let a = m .before .before .before in
-    turning-room (m .c .given .1) (a .args .k) (length (now (a .args .buf))) (a .pre .0) (a .pre .1))
-    (λ c. search needs)
-    (λ c κs.
-    let m = c .before .before in
-    let a = m .before .before .before in
-    groove-room (m .c2 .given .1) (a .args .k) (length (now (a .args .buf))) (a .pre .0) (a .pre .1))
-    (λ c. search needs)
-    (λ c.
-    let w = c .before .before in
-    let m = w .before .before .before in
-    let a = m .before .before .before in
-    written (m .c .given .1) (now (a .args .buf)) (recordStart (a .args .k)) (w .put-turning .ensures))
-    (λ c. search needs)
-    (λ c.
-    let w = c .before .before in
-    let m = w .before .before .before in
-    let a = m .before .before .before in
-    written (m .c2 .given .1) (now (a .args .buf)) (recordStart (a .args .k)) (w .put-grooving .ensures)))
+    (tie.spec (λ c κs. search needs) (λ c. search needs) (λ c. search needs) put-rest-requires (λ c. search needs) returns)

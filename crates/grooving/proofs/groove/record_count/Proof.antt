@@ -6,6 +6,7 @@ use Prim.Native.Nat.{ℕ, _+_, _*_, _≤_, _<_}
 use native.Mathlib.Nat.{mul-le-mul}
 use native.Mathlib.Omega.{arith}
 use Rattle.grooving.specs.Grooving.{stepCount, recordCount}
+use Rattle.grooving.proofs.Counts.{grooving-length}
 use Rattle.grooving.proofs.Rows.{few-steps, few-plunge}
 use Rattle.grooving.proofs.groove.record_count.Statement.{statement}
 use Rattle.grooving.proofs.groove.record_count.Tie as tie
@@ -13,9 +14,10 @@ use Rattle.grooving.proofs.groove.record_count.Tie as tie
 returns : tie.Need-returns
 unfolding recordCount
 returns c =
-    let g = c .before .before .before .args .g in
+    let s = c .before .before .before in
+    let g = s .args .g in
     let e : stepCount g ≡ 0 = sym (c .before .before .step-count .ensures) ∙ c .if1 .taken in
-    rw (eq-eqb (stepCount g) 0 e) (c .before .plunge-count .ensures)
+    rw (grooving-length g (s .pre .0), eq-eqb (stepCount g) 0 e) (c .before .plunge-count .ensures)
 
 -- lengths below 10^8 leave every number far below 2^64
 record Few (n p : ℕ) : Type 0 where
@@ -45,10 +47,11 @@ add-result-3 c = omega (arith, few c)
 returns-2 : tie.Need-returns-2
 unfolding recordCount
 returns-2 c =
-    let g = c .before .before .before .args .g in
+    let s = c .before .before .before in
+    let g = s .args .g in
     let n = c .before .before .step-count .ensures in
     let p = c .before .plunge-count .ensures in
-    rw (ne-eqb (stepCount g) 0 (λ e. c .if1 .left (n ∙ e))) (λ i. p i + (n i * (p i + 1) + 1))
+    rw (grooving-length g (s .pre .0), ne-eqb (stepCount g) 0 (λ e. c .if1 .left (n ∙ e))) (λ i. p i + (n i * (p i + 1) + 1))
 
 pub record-count-spec : {M : Type 1} → statement M
 record-count-spec =

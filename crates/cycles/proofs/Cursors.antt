@@ -1,0 +1,14 @@
+-- Nothing is left of a cycle that is over: one law, with a clause for each cycle.
+-- Assumes nothing.
+use mathlib.Core.Path.{_≡_}
+use mathlib.Core.Bool.{true}
+use mathlib.Core.List.{[]}
+use Rattle.turning.proofs.Cursors as turn
+use Rattle.grooving.proofs.Cursors as groove
+use Rattle.cycles.specs.declared.cursor.Cursor.{Cursor}
+use Rattle.cycles.specs.declared.cursor.Cursor.the-variants.{Turning, Grooving}
+use Rattle.cycles.specs.Cursor.{restOf, over}
+
+pub rest-none : (c : Cursor) → over c ≡ true → restOf c ≡ []
+rest-none (Turning c) e = turn.rest-none c e
+rest-none (Grooving c) e = groove.rest-none c e

@@ -1,0 +1,18 @@
+-- `cycles::cursor::open` meets its contract.
+use mathlib.Core.Path.{ap, sym, _∙_}
+use borrow.Author.Needs.{needs}
+use Rattle.cycles.specs.Cycle.{records}
+use Rattle.cycles.proofs.Matched.{right}
+use Rattle.cycles.proofs.cursor.open.Statement.{statement}
+use Rattle.cycles.proofs.cursor.open.Tie as tie
+
+pub open-spec : {M : Type 1} → statement M
+open-spec =
+    tie.close
+    (tie.spec
+    (λ c. search needs)
+    (λ c κs. right (c .before .c .given .1) (c .before .before .before .pre))
+    (λ c. search needs)
+    (λ c κs. right (c .before .c2 .given .1) (c .before .before .before .pre))
+    (λ c. (c .open .ensures .0 ∙ ap records (sym (c .before .before .c .given .1)), c .open .ensures .1))
+    (λ c. (c .open2 .ensures .0 ∙ ap records (sym (c .before .before .c2 .given .1)), c .open2 .ensures .1)))

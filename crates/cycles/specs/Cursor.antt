@@ -1,0 +1,29 @@
+-- WHAT IS LEFT OF A CYCLE that is opened, whichever cycle it is: definitions with a clause for each.
+use mathlib.Core.Path.{_≡_}
+use mathlib.Core.Bool.{Bool}
+use mathlib.Core.List.{List, _∷_}
+use Rattle.moves.specs.declared.record.Record.{Record}
+use Rattle.turning.specs.Cursor as turn
+use Rattle.grooving.specs.Cursor as groove
+use Rattle.cycles.specs.declared.cursor.Cursor.{Cursor}
+use Rattle.cycles.specs.declared.cursor.Cursor.the-variants.{Turning, Grooving}
+
+-- the records that are left
+abbrev pub restOf : Cursor → List Record
+restOf (Turning c) = turn.restOf c
+restOf (Grooving c) = groove.restOf c
+
+-- none is left
+abbrev pub over : Cursor → Bool
+over (Turning c) = turn.over c
+over (Grooving c) = groove.over c
+
+-- what every cursor keeps
+abbrev pub Sound : Cursor → Type 0
+Sound (Turning c) = turn.Sound c
+Sound (Grooving c) = groove.Sound c
+
+-- one record: the first of what is left, and a cursor that has the others
+pub record Makes (c : Cursor) (made : Record) (behind : Cursor) : Type 0 where
+  pub first : restOf c ≡ made ∷ restOf behind
+  pub sound : Sound behind

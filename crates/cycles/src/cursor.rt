@@ -1,0 +1,66 @@
+// A cycle that is opened: it hands out its records one after the other, whichever cycle it is.
+// A new cycle is one arm in each function below.
+use crate::Cycle;
+use moves::record::Record;
+ghost use mathlib.Core.Path.{_≡_};
+ghost use mathlib.Core.Bool.{false};
+ghost use Rattle.cycles.specs.Cycle.{wrong, records};
+ghost use Rattle.cycles.specs.Cursor.{restOf, over, Sound, Makes};
+
+pub enum Cursor {
+    Turning(turning::cursor::Cursor),
+    Grooving(grooving::cursor::Cursor),
+}
+
+pub struct Handed {
+    pub record: Record,
+    pub rest: Cursor,
+}
+
+// A cycle before its first record. Alarm 19 was judged before.
+pub fn open(c: Cycle) -> Cursor
+    requires { ⌜ wrong c ≡ false ⌝ }
+    ensures { λ r. ⌜ (restOf r ≡ records c) × Sound r ⌝ }
+{
+    match c {
+        Cycle::Turning(t) => Cursor::Turning(turning::cursor::open(t)),
+        Cycle::Grooving(g) => Cursor::Grooving(grooving::cursor::open(g)),
+    }
+}
+
+// Whether no record is left.
+pub fn is_over(c: Cursor) -> bool
+    ensures { λ r. ⌜ r ≡ over c ⌝ }
+{
+    match c {
+        Cursor::Turning(t) => turning::cursor::is_over(t),
+        Cursor::Grooving(g) => grooving::cursor::is_over(g),
+    }
+}
+
+// The next record, and what is left behind it.
+pub fn next(c: Cursor) -> Handed
+    requires { ⌜ Sound c × (over c ≡ false) ⌝ }
+    ensures { λ r. ⌜ Makes c (r .record) (r .rest) ⌝ }
+{
+    match c {
+        Cursor::Turning(t) => {
+            let handed = turning::cursor::next(t);
+            let record = handed.record;
+            let behind = handed.rest;
+            Handed {
+                record,
+                rest: Cursor::Turning(behind),
+            }
+        }
+        Cursor::Grooving(g) => {
+            let handed = grooving::cursor::next(g);
+            let record = handed.record;
+            let behind = handed.rest;
+            Handed {
+                record,
+                rest: Cursor::Grooving(behind),
+            }
+        }
+    }
+}
