@@ -1,6 +1,6 @@
 -- 01: "A program line is `%` or `O` and 1 to 4 digits, 0 to 6999, nothing more. A block line starts with `N` and 1 to 4 digits." (That a program number is at most
 -- 6999 is judged where the tape is read.) "Within a block, the last word of an address (for P
--- and D, of an address and index) is the one that applies, and for G and M the last word of its group (001)." "ReadLine ends after a line whose last word is M30".
+-- and D, of an address and index) is the one that applies, and for G and M the last word of its group (001)." "Reading ends after a line whose last word is M30".
 use mathlib.Core.Bool.{Bool, true, false, cond, _&&_, _||_}
 use mathlib.Core.List.{List}
 use Prim.Native.Nat.{ℕ, _+_, _<_}
