@@ -69,7 +69,7 @@ at c s =
 abbrev pub afterCut : ℕ → ℕ → Stage
 afterCut left dwell = cond (ltb 0 left) Back (cond (ltb 0 dwell) Dwell Out)
 
--- a cut, and the rapid back for one, has a cut before it
+-- where a cut comes next, or the rapid back for one, a cut is left
 abbrev pub Ready : Stage → Cursor → Type 0
 Ready Cut c = 0 < c .cuts .left
 Ready Back c = 0 < c .cuts .left

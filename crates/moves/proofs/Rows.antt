@@ -20,8 +20,3 @@ row-on b k v w n e h =
 pub row-one : (r : Record) → recordBytes r ≡ rowBytes (r ∷ [])
 unfolding rowBytes
 row-one r = sym (append-nil (recordBytes r))
-
--- and so is one record
-pub one-on : (b : List ℕ) (k : ℕ) (v : List Record) (r : Record) (n : ℕ) → k + length v ≡ n → recordStart n ≤ length b
-    → laid (laid b (recordStart k) (rowBytes v)) (recordStart n) (recordBytes r) ≡ laid b (recordStart k) (rowBytes (v ++ (r ∷ [])))
-one-on b k v r n e h = ap (laid (laid b (recordStart k) (rowBytes v)) (recordStart n)) (row-one r) ∙ row-on b k v (r ∷ []) n e h
