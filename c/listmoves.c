@@ -1,5 +1,5 @@
 /* Reads a tape, from a file or from standard input, runs it through the interpreter's door and prints the list of moves, or the alarm, as `./listmoves` does: the same settings, the same
-   text. c/compare builds it and compares the two. */
+   text and the same status, 0 for a list, 1 for an alarm, 2 where there is no tape. c/compare builds it and compares the two. */
 #include <inttypes.h>
 #include <stdio.h>
 
@@ -58,5 +58,5 @@ int main(int argc, char **argv) {
         perror("standard output");
         return 2;
     }
-    return 0;
+    return tm02_alarm(answer) == 0 ? 0 : 1;
 }

@@ -1,5 +1,7 @@
 /* The interpreter of TM02 program tapes, as the control's firmware calls it. `rt staticlib board` writes it to target/staticlib/libboard.a; c/listmoves.c is an example.
-   The archive is for x86-64 and C's System V calling convention, uses SSE registers, and needs memcpy and memset and nothing else. The contract of the function stands in
+   The archive is for x86-64 and C's System V calling convention, uses SSE registers, and needs memcpy and memset and nothing else. It has read-only data and no writable data. The
+   convention lets code use the 128 bytes below the stack pointer (the red zone) without moving it, and the kit cannot be told to leave them alone. The archive of this version does not touch
+   them, and c/compare looks for it: have it look at every archive that is built, before an interrupt handler shares the stack of a running call. This file needs C99 or C++. The contract of the function stands in
    crates/board/src/lib.rt, docs/ALARMS.md is the alarm card. */
 #ifndef TM02_H
 #define TM02_H
