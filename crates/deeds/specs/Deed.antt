@@ -47,11 +47,15 @@ xAxis b s = record { start = s .x; target = s .«x_target»; allowance = dWord b
 abbrev pub zAxis : Block → Sending → Axis
 zAxis b s = record { start = s .z; target = s .«z_target»; allowance = dWord b 2 }
 
+-- the cycle, of its axes and D3: "d = 2 x D3 (D3 is per side)"; "Facing: exchange the axes, .. d = D3"
+abbrev pub turningBy : Sending → Bool → Axis → Axis → ℕ → Turning
+turningBy s facing x z d3 =
+    cond facing
+    (record { facing = true; infeed = z; path = x; division = d3; f = s .f; g95 = s .g95 })
+    (record { facing = false; infeed = x; path = z; division = 2 * d3; f = s .f; g95 = s .g95 })
+
 unfoldable pub turningOf : Block → Sending → Turning
-turningOf b s =
-    cond (isFacing b)
-    (record { facing = true; infeed = zAxis b s; path = xAxis b s; division = dWord b 3; f = s .f; g95 = s .g95 })
-    (record { facing = false; infeed = xAxis b s; path = zAxis b s; division = 2 * dWord b 3; f = s .f; g95 = s .g95 })
+turningOf b s = turningBy s (isFacing b) (xAxis b s) (zAxis b s) (dWord b 3)
 
 -- the ways of a groove
 abbrev pub xWay : Sending → Way

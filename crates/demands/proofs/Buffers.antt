@@ -18,7 +18,7 @@ use Rattle.settings.specs.Known.{Table}
 use Rattle.state.specs.Known.{Sound}
 use Rattle.state.proofs.Ranges.{start-sound}
 use Rattle.settings.specs.Known.{InRange}
-use Rattle.demands.specs.Opens.{turningIn}
+use Rattle.demands.specs.Opens.{wantedIn}
 use Rattle.settings.specs.declared.control.Settings.{Settings}
 use Rattle.machine.proofs.Running.{sound-after}
 use Rattle.ahead.specs.Ahead.{mostCalls, onto}
@@ -101,7 +101,7 @@ read-from t h tail e v (st ∷ sts) r s lh is g f c l x z =
       λ o. record {
         x = ap (λ (q : Run). q .state .x) (l .0 .begun) ∙ x ∙ ap (lastOf (λ q. q .x) (t .settings .x)) before;
         z = ap (λ (q : Run). q .state .z) (l .0 .begun) ∙ z ∙ ap (lastOf (λ q. q .z) (t .settings .z)) before;
-        turned = subst (Turned (turningIn (t .table) (t .settings) (st .before .state) b)) there (c .0 o);
+        turned = subst (Turned (wantedIn (t .table) (st .before .state) b)) there (c .0 o);
       },
       subst (λ (n : ℕ). EachFrom (CutIn t e) n sts) (length-append v w) more,
     )

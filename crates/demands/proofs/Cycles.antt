@@ -8,7 +8,7 @@ use lib.ListN.{length, length-append}
 use Rattle.moves.specs.declared.record.Record.{Record}
 use Rattle.turning.specs.Turned.{Turned}
 use Rattle.machine.specs.Blocks.{doneRecords}
-use Rattle.demands.specs.Opens.{turningIn}
+use Rattle.demands.specs.Opens.{wantedIn}
 use Rattle.demands.proofs.Opening.{block-turned}
 use Rattle.ahead.specs.Ahead.{onto}
 use Rattle.steps.specs.Steps.{Task, Step, blockOn, runAfter}
@@ -24,8 +24,8 @@ cut t r st d opens =
     let b = blockOn (t .tape) (st .place) in
     let well = free-own t (onto (d .frame) (st .place)) r (d .free) in
     let turned = block-turned (t .table) (t .settings) (r .state) b opens (t .room - r .count) well in
-    subst (λ (v : List Record). Turned (turningIn (t .table) (t .settings) (st .before .state) b) v) (sym (d .wrote))
-    (subst (λ (q : Run). Turned (turningIn (t .table) (t .settings) (q .state) b) (doneRecords (t .table) (t .settings) (r .state) b)) (sym (d .begun)) turned)
+    subst (λ (v : List Record). Turned (wantedIn (t .table) (st .before .state) b) v) (sym (d .wrote))
+    (subst (λ (q : Run). Turned (wantedIn (t .table) (q .state) b) (doneRecords (t .table) (t .settings) (r .state) b)) (sym (d .begun)) turned)
 
 pub every-cycle : (t : Task) (sts : List Step) (r s : Run) → Linked t r sts s → EveryCycle t sts
 unfolding Linked Each

@@ -15,17 +15,20 @@ use Rattle.codes.specs.declared.meaning.Code.the-variants as code
 use Rattle.block.specs.Slots.{has, groupZeroIs, sSlot, tSlot, spindleSlot, flowSlot, coolantSlot, motionSlot, codeIn, gIn}
 use Rattle.acts.specs.Acting.{motionBy}
 use Rattle.state.specs.Modal.{blockMotion, settled}
+use Rattle.state.specs.Target.{offsetOf}
 use Rattle.codes.specs.declared.meaning.Motion.the-variants as motion
 use Rattle.block.specs.declared.words.Block.{Block}
 use Rattle.axes.specs.Goes.{inwardOf, acrossOf}
 use Rattle.acts.specs.declared.acting.Kept.{Kept}
 use Rattle.acts.specs.declared.acting.Kept.the-variants as kept
 use Rattle.state.specs.declared.modal.State.{State}
-use Rattle.deeds.specs.Deed.{isFacing, turningOf, moveOf, deedOf}
+use Rattle.deeds.specs.Deed.{moveOf, deedOf}
+use Rattle.deeds.specs.Wanted.{zBeforeX, wanted}
 use Rattle.deeds.specs.declared.deed.Deed.{Deed}
 use Rattle.deeds.specs.declared.deed.Deed.the-variants as deed
 use Rattle.asking.specs.Judge.{doing}
 use Rattle.deeds.specs.Known.{Right}
+use Rattle.deeds.proofs.Wanted.{is-wanted}
 use Rattle.cycles.specs.declared.Cycle.the-variants as cycle
 use Rattle.turning.specs.Turned.{Turned}
 use Rattle.turning.specs.Turning.{turning}
@@ -36,11 +39,11 @@ use Rattle.settings.specs.declared.control.Settings.{Settings}
 use Rattle.writing.specs.Writes.{oneIf, speedOf, toolOf, mOf, speedAndTool, spindleAndCoolant, done, stops, stopping, writes}
 use Rattle.verdicts.specs.Verdicts.{sendingOf, deedIn, alarmIn}
 use Rattle.machine.specs.Blocks.{doneRecords}
-use Rattle.demands.specs.Opens.{opensTurning, turningIn}
+use Rattle.demands.specs.Opens.{opensTurning, wantedIn}
 use Rattle.demands.proofs.Quiet.{Quiet, AllQuiet, NoFeeds, quiet-append, turned-between}
 use Rattle.verdicts.proofs.Passing.{right-in}
 
--- ---- the deed of a G84 block is the cycle that its words give
+-- ---- the deed of a G84 block is the cycle that its words ask for
 both-true : (a b : Bool) → (a && b) ≡ true → (a ≡ true) × (b ≡ true)
 both-true true b h = (refl, h)
 both-true false b h = absurd (subst T (sym h) tt)
@@ -59,9 +62,11 @@ turning-motion before b h =
     ∙ turning-code before
 
 module _ (table : List ℤ) (set : Settings) (s : State) (b : Block) (opens : opensTurning b ≡ true) where
-  pub turning-deed : deedIn table set s b ≡ deed.Cycle (cycle.Turning (turningIn table set s b))
-  unfolding deedIn deedOf moveOf turningIn
-  turning-deed = ap (λ (k : Kept). deedOf k b (sendingOf table set s b)) (turning-motion (s .motion) b opens)
+  pub turning-deed : deedIn table set s b ≡ deed.Cycle (cycle.Turning (wantedIn table s b))
+  unfolding deedIn deedOf moveOf sendingOf wantedIn
+  turning-deed =
+      ap (λ (k : Kept). deedOf k b (sendingOf table set s b)) (turning-motion (s .motion) b opens)
+      ∙ ap (λ (c : Turning). deed.Cycle (cycle.Turning c)) (is-wanted b (settled s b) (offsetOf table (settled s b)) (set .retract))
 
 -- ---- the other records of a block are no feeds, and stand where the cycle starts
 module _ (table : List ℤ) (set : Settings) (s : State) (b : Block) where
@@ -69,7 +74,7 @@ module _ (table : List ℤ) (set : Settings) (s : State) (b : Block) where
   t = settled s b
 
   abbrev c : Turning
-  c = turningIn table set s b
+  c = wantedIn table s b
 
   one-quiet : (u : Bool) (r : Record) → Quiet c r → AllQuiet c (oneIf u r)
   unfolding oneIf
@@ -86,9 +91,9 @@ module _ (table : List ℤ) (set : Settings) (s : State) (b : Block) where
   starts-by false k l x z h g = g
 
   starts : Starts c (t .x) (t .z)
-  unfolding turningIn turningOf sendingOf
+  unfolding wantedIn wanted
   starts =
-      starts-by (isFacing b) _ _ (t .x) (t .z)
+      starts-by (zBeforeX b) _ _ (t .x) (t .z)
       (record { inward = λ r ex ez. ez; across = λ r ex ez. ex })
       (record { inward = λ r ex ez. ex; across = λ r ex ez. ez })
 

@@ -17,7 +17,7 @@ use Rattle.reading.specs.declared.read.Read.{Read}
 use Rattle.reading.specs.declared.read.Read.the-variants as read
 use Rattle.turning.specs.Turned.{Turned}
 use Rattle.moves.specs.Last.{lastOf}
-use Rattle.demands.specs.Opens.{opensTurning, turningIn}
+use Rattle.demands.specs.Opens.{opensTurning, wantedIn}
 use Rattle.settings.specs.declared.control.Settings.{Settings}
 use Rattle.steps.specs.Steps.{Task, taskOf, Step, blockOn}
 use Rattle.answers.specs.Answers.{placeOf, countOf}
@@ -35,7 +35,7 @@ Each P (st ∷ sts) = P st × Each P sts
 abbrev pub Cut : Task → Step → Type 0
 Cut t st =
     opensTurning (blockOn (t .tape) (st .place)) ≡ true
-    → Turned (turningIn (t .table) (t .settings) (st .before .state) (blockOn (t .tape) (st .place))) (st .records)
+    → Turned (wantedIn (t .table) (st .before .state) (blockOn (t .tape) (st .place))) (st .records)
 
 -- every G84 of some steps
 abbrev pub EveryCycle : Task → List Step → Type 0
@@ -62,7 +62,7 @@ EachFrom P k (st ∷ sts) = P st k × EachFrom P (k + length (st .records)) sts
 pub record TurnedIn (t : Task) (e : List ℕ) (st : Step) (k : ℕ) : Type 0 where
   pub x : st .before .state .x ≡ lastOf (λ r. r .x) (t .settings .x) (recordsIn e 0 k)
   pub z : st .before .state .z ≡ lastOf (λ r. r .z) (t .settings .z) (recordsIn e 0 k)
-  pub turned : Turned (turningIn (t .table) (t .settings) (st .before .state) (blockOn (t .tape) (st .place))) (recordsIn e k (length (st .records)))
+  pub turned : Turned (wantedIn (t .table) (st .before .state) (blockOn (t .tape) (st .place))) (recordsIn e k (length (st .records)))
 
 abbrev pub CutIn : Task → List ℕ → Step → ℕ → Type 0
 CutIn t e st k = opensTurning (blockOn (t .tape) (st .place)) ≡ true → TurnedIn t e st k

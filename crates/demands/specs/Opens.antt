@@ -4,16 +4,17 @@ use mathlib.Core.List.{List}
 use lib.IntN.{ℤ}
 use Rattle.block.specs.Slots.{groupZeroIs}
 use Rattle.block.specs.declared.words.Block.{Block}
+use Rattle.state.specs.Modal.{settled}
+use Rattle.state.specs.Target.{offsetOf}
 use Rattle.state.specs.declared.modal.State.{State}
-use Rattle.deeds.specs.Deed.{turningOf}
+use Rattle.deeds.specs.Wanted.{wanted}
 use Rattle.turning.specs.declared.cycle.Turning.{Turning}
-use Rattle.settings.specs.declared.control.Settings.{Settings}
-use Rattle.verdicts.specs.Verdicts.{sendingOf}
 
 -- the G word of group 0 that applies is G84
 abbrev pub opensTurning : Block → Bool
 opensTurning b = groupZeroIs b 84
 
--- the cycle that it opens: from where the axes stand to its targets, with its D words
-unfoldable pub turningIn : List ℤ → Settings → State → Block → Turning
-turningIn table set s b = turningOf b (sendingOf table set s b)
+-- the cycle that it asks for in the state s before it, in demand 3's own words. What its G and T words set, and so the offset, are those of every block (state/Modal, state/Target): "A block's own
+-- G and T words act before its move." (A G84 with a T word or a word of group 3 or 5 is alarm 16, so that its offset is the one of before.)
+unfoldable pub wantedIn : List ℤ → State → Block → Turning
+wantedIn table s b = wanted b (settled s b) (offsetOf table (settled s b))

@@ -1,4 +1,4 @@
--- 01, "Pieces that must come out so": P1 to P10 as a single table, and the listing that it prints. Cases by tape go through all definitions, with the settings of `listmoves`; places on a tape count from 0.
+-- 01, "Pieces that must come out so": P1 to P10 as a single table, the listing that it prints, and a facing G84. Cases by tape go through all definitions, with the settings of `listmoves`; places on a tape count from 0.
 use mathlib.Core.Bool.{Bool, true, false, _&&_}
 use mathlib.Core.List.{List, [], _∷_, _++_}
 use Prim.Native.Nat.{ℕ}
@@ -189,6 +189,19 @@ table =
     ∷ rapid (pos 30400) (pos 2000)
     ∷ feed (pos 30400) (minus 19900) 120 true
     ∷ feed (pos 40000) (minus 19900) 120 true
+    ∷ rapid (pos 40000) (pos 2000)
+    ∷ miscellaneous (pos 40000) (pos 2000) 30
+    ∷ [])
+    -- a facing G84 with D0, D2 and D3: 7,000 less 99 in pieces of at most 3,500 is 3,451 and 3,450; the end line is X20. and 400 more
+    ∷ lists "%1\nN10 G00 X40. Z2.\nN20 G84 Z-5. X20. D0=400 D2=99 D3=3500 F120\nN30 M30"
+    (rapid (pos 40000) (pos 2000)
+    ∷ rapid (pos 40000) (minus 1451)
+    ∷ feed (pos 20400) (minus 1451) 120 true
+    ∷ feed (pos 20400) (pos 2000) 120 true
+    ∷ rapid (pos 40000) (pos 2000)
+    ∷ rapid (pos 40000) (minus 4901)
+    ∷ feed (pos 20400) (minus 4901) 120 true
+    ∷ feed (pos 20400) (pos 2000) 120 true
     ∷ rapid (pos 40000) (pos 2000)
     ∷ miscellaneous (pos 40000) (pos 2000) 30
     ∷ [])

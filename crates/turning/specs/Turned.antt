@@ -1,5 +1,5 @@
--- DEMAND 3: what a turning cycle promises, said of a row of records alone, whoever made it. Of the cycle only its lengths and allowance lines are cited, and nothing of how
--- records are made. "The pass depths add up exactly to the infeed less the allowance, none is above the division, no row within the division with that sum is shorter, none equally
+-- DEMAND 3: what a turning cycle promises, said of a row of records alone, whoever made it. Of the cycle its axes, their sides, lengths and allowance lines, and its division
+-- are cited, and nothing of how records are made. "The pass depths add up exactly to the infeed less the allowance, none is above the division, no row within the division with that sum is shorter, none equally
 -- short has a smaller greatest depth. With or without a division no feed move of the cycle goes past the allowance in either axis."
 use mathlib.Core.Path.{_≡_}
 use mathlib.Core.Bool.{true, cond, _&&_, _||_}

@@ -1,0 +1,57 @@
+-- DEMAND 3'S OWN WORDS: the cycle that a G84 block asks for, from the words that apply in it, the offset in force, and the state after its own G, T and F words and before its move: the axes
+-- stand there where they stood before the block. Nothing here is cited by what says how a G84 is done, nor cites it (`turningOf`, `targetX`). That it is done so is proved: proofs/Wanted.antt.
+use mathlib.Core.Bool.{Bool, true, false, cond}
+use Prim.Native.Nat.{ℕ, _+_, _*_}
+use lib.Dec.{ltb}
+use lib.IntN.{ℤ, pos, natAbs, _+ℤ_, _*ℤ_}
+use lib.ListN.{getD}
+use Rattle.block.specs.Slots.{has, xSlot, zSlot, uSlot, wSlot, dSlot}
+use Rattle.block.specs.declared.words.Block.{Block}
+use Rattle.state.specs.declared.modal.State.{State}
+use Rattle.state.specs.declared.target.Pair.{Pair}
+use Rattle.axes.specs.declared.axis.Axis.{Axis}
+use Rattle.turning.specs.declared.cycle.Turning.{Turning}
+
+-- the number of a word, and its place among the words of its block; both are 0 where a block that was read has no such word
+abbrev pub wordNumber : Block → ℕ → ℤ
+wordNumber b slot = getD (b .value) slot (pos 0)
+
+abbrev pub wordPlace : Block → ℕ → ℕ
+wordPlace b slot = getD (b .place) slot 0
+
+-- "Target of X or Z = word + offset. Target of U or W = present machine position + word (U doubled). An axis without a word stays at its machine position."
+abbrev pub xTargetWanted : Block → State → Pair → ℤ
+xTargetWanted b s offset =
+    cond (has b xSlot) (wordNumber b xSlot +ℤ offset .x)
+    (cond (has b uSlot) (s .x +ℤ pos 2 *ℤ wordNumber b uSlot)
+    (s .x))
+
+abbrev pub zTargetWanted : Block → State → Pair → ℤ
+zTargetWanted b s offset =
+    cond (has b zSlot) (wordNumber b zSlot +ℤ offset .z)
+    (cond (has b wSlot) (s .z +ℤ wordNumber b wSlot)
+    (s .z))
+
+-- D0, D2, D3: numbers without a sign. "Missing D0 and D2 are 0." "No D3, or 0: one pass."
+abbrev pub dNumber : Block → ℕ → ℕ
+dNumber b index = natAbs (wordNumber b (dSlot index))
+
+-- the two axes, each from where it stands to its target. "D0 is counted on the diameter, like an X word, in micrometres": D0 is the allowance on X, D2 that on Z
+abbrev pub xAxisWanted : Block → State → Pair → Axis
+xAxisWanted b s offset = record { start = s .x; target = xTargetWanted b s offset; allowance = dNumber b 0 }
+
+abbrev pub zAxisWanted : Block → State → Pair → Axis
+zAxisWanted b s offset = record { start = s .z; target = zTargetWanted b s offset; allowance = dNumber b 2 }
+
+-- "X or U before Z or W is longitudinal, else facing; the order is that of the words that apply": a block that runs has one of X and U and one of Z and W (else alarm 9), and the place of the
+-- other is 0
+abbrev pub zBeforeX : Block → Bool
+zBeforeX b = ltb (wordPlace b zSlot + wordPlace b wSlot) (wordPlace b xSlot + wordPlace b uSlot)
+
+-- "Longitudinal: the infeed is the X distance from start to target, and E is the infeed less D0; the end line is the Z target moved back toward the start by D2. .. d = 2 x D3 (D3 is per side).
+-- .. Facing: exchange the axes, E from Z less D2, end line from X and D0, d = D3." F and G95 are no part of demand 3
+unfoldable pub wanted : Block → State → Pair → Turning
+wanted b s offset =
+    cond (zBeforeX b)
+    (record { facing = true; infeed = zAxisWanted b s offset; path = xAxisWanted b s offset; division = dNumber b 3; f = s .f; g95 = s .g95 })
+    (record { facing = false; infeed = xAxisWanted b s offset; path = zAxisWanted b s offset; division = 2 * dNumber b 3; f = s .f; g95 = s .g95 })
