@@ -47,11 +47,11 @@ sent = record { x = pos 40000; z = pos 2000; «x_target» = pos 30000; «z_targe
 abbrev settings : List ℤ
 settings = pos 400 ∷ pos 0 ∷ pos 100 ∷ pos 2500 ∷ pos 5 ∷ pos 3000 ∷ []
 
--- X before Z is longitudinal: "d = 2 x D3"
+-- X before Z is longitudinal: "d = 2 x D3"; 02: "the X allowance is 2 x D0, longitudinal and facing"
 pub alongside : deedOf (kept.Of motion.Turning) (words 2 3 (pos 30000) (negsuc 19999) settings) sent ≡
     deed.Cycle (cycle.Turning (record {
       facing = false;
-      infeed = record { start = pos 40000; target = pos 30000; allowance = 400 };
+      infeed = record { start = pos 40000; target = pos 30000; allowance = 800 };
       path = record { start = pos 2000; target = negsuc 19999; allowance = 100 };
       division = 5000;
       f = 120;
@@ -65,7 +65,7 @@ pub faced : deedOf (kept.Of motion.Turning) (words 4 3 (pos 30000) (negsuc 19999
     deed.Cycle (cycle.Turning (record {
       facing = true;
       infeed = record { start = pos 2000; target = negsuc 19999; allowance = 100 };
-      path = record { start = pos 40000; target = pos 30000; allowance = 400 };
+      path = record { start = pos 40000; target = pos 30000; allowance = 800 };
       division = 2500;
       f = 120;
       g95 = true;

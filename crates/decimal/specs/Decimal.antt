@@ -1,4 +1,4 @@
--- A NUMBER AS TEXT. 01 has the numbers of a listing in decimal: "kind, flags, X, Z and value for each record", as `2 1 35200 -19900 120`.
+-- A NUMBER AS TEXT. 01 has the numbers of a listing in decimal: "kind, flags, X, Z and value for each record", as `2 1 35400 -19900 120`.
 -- No zeros in front, and a minus before a number below zero.
 use mathlib.Core.List.{List, [], _∷_, _++_}
 use Prim.Native.Nat.{ℕ, zero, suc, _+_, _/_, _%_}

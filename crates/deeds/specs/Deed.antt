@@ -1,7 +1,8 @@
 -- 01: "Without a path word G00, G01 and G33 make no move. A move to the present point is still a record." "G84 (001: X or U before Z or W is longitudinal, else facing; the order is
--- that of the words that apply). .. E is the infeed less D0; the end line is the Z target moved back toward the start by D2. D0 is counted on the diameter, like an X word .. d = 2 x D3
--- (D3 is per side). .. Facing: exchange the axes, E from Z less D2, end line from X and D0, d = D3. .. Missing D0 and D2 are 0." G86: "alongside (X before Z)", "divides its X depth with
--- 2 x D3", "a rapid back by twice the retract", "Facing: exchange axes, .. tool width 2 x D5, overlap 200, depth piece D3, single retract."
+-- that of the words that apply). .. E is the infeed less D0; the end line is the Z target moved back toward the start by D2. .. d = 2 x D3 (D3 is per side). .. Facing: exchange the axes, E
+-- from Z less D2, end line from X and D0, d = D3. .. Missing D0 and D2 are 0." 02, in the place of "D0 is counted on the diameter": "D0 is per side, as U and D3 are. In document 01 the X
+-- allowance is 2 x D0, longitudinal and facing." G86: "alongside (X before Z)", "divides its X depth with 2 x D3", "a rapid back by twice the retract", "Facing: exchange axes, .. tool width
+-- 2 x D5, overlap 200, depth piece D3, single retract."
 use mathlib.Core.Bool.{Bool, true, false, cond, _||_}
 use Prim.Native.Nat.{ℕ, _+_, _*_}
 use lib.Dec.{ltb}
@@ -40,9 +41,9 @@ isFacing b = ltb (placeOn b zSlot) (placeOn b xSlot)
 abbrev pub dWord : Block → ℕ → ℕ
 dWord b i = codeIn b (dSlot i)
 
--- the axes of a turning cycle
+-- the axes of a turning cycle; 02: "the X allowance is 2 x D0, longitudinal and facing"
 abbrev pub xAxis : Block → Sending → Axis
-xAxis b s = record { start = s .x; target = s .«x_target»; allowance = dWord b 0 }
+xAxis b s = record { start = s .x; target = s .«x_target»; allowance = 2 * dWord b 0 }
 
 abbrev pub zAxis : Block → Sending → Axis
 zAxis b s = record { start = s .z; target = s .«z_target»; allowance = dWord b 2 }

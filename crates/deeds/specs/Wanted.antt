@@ -36,9 +36,9 @@ zTargetWanted b s offset =
 abbrev pub dNumber : Block → ℕ → ℕ
 dNumber b index = natAbs (wordNumber b (dSlot index))
 
--- the two axes, each from where it stands to its target. "D0 is counted on the diameter, like an X word, in micrometres": D0 is the allowance on X, D2 that on Z
+-- the two axes, each from where it stands to its target. 02: "D0 is per side, as U and D3 are. In document 01 the X allowance is 2 x D0, longitudinal and facing." D2 is the allowance on Z
 abbrev pub xAxisWanted : Block → State → Pair → Axis
-xAxisWanted b s offset = record { start = s .x; target = xTargetWanted b s offset; allowance = dNumber b 0 }
+xAxisWanted b s offset = record { start = s .x; target = xTargetWanted b s offset; allowance = 2 * dNumber b 0 }
 
 abbrev pub zAxisWanted : Block → State → Pair → Axis
 zAxisWanted b s offset = record { start = s .z; target = zTargetWanted b s offset; allowance = dNumber b 2 }

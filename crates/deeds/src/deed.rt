@@ -1,5 +1,5 @@
 // The deed of a block, and the cycles as their words give them: a cycle's D words and retract that count on a diameter are scaled here, and nowhere else.
-// (01, "G84": "d = 2 x D3 (D3 is per side)"; "G86": "2 x D3", "twice the retract", facing "tool width 2 x D5, overlap 200, depth piece D3, single retract".)
+// (01, "G84": "d = 2 x D3 (D3 is per side)"; 02: "the X allowance is 2 x D0"; "G86": "2 x D3", "twice the retract", facing "tool width 2 x D5, overlap 200, depth piece D3, single retract".)
 use acts::acting::Kept;
 use axes::axis::Axis;
 use block::words::Block;
@@ -88,7 +88,7 @@ fn turning_of(b: Block, s: Sending) -> Turning
     let x = Axis {
         start: s.x,
         target: s.x_target,
-        allowance: d_word(b, 0),
+        allowance: 2 * d_word(b, 0),
     };
     let z = Axis {
         start: s.z,

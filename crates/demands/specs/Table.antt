@@ -167,41 +167,41 @@ table =
     -- P8
     ∷ reads "X40" (pos 40)
     ∷ reads "X40." (pos 40000)
-    -- P9: from X40.4 to X40., Z2. to Z0
-    ∷ alarms "%1\nN10 G00 X40.4 Z2.\nN20 G84 X40. Z0 D0=400 F120\nN30 M30" 19 21 1
-    ∷ lists "%1\nN10 G00 X40.4 Z2.\nN20 G84 X40. Z0 D0=399 F120\nN30 M30"
-    (rapid (pos 40400) (pos 2000)
-    ∷ rapid (pos 40399) (pos 2000)
-    ∷ feed (pos 40399) (pos 0) 120 true
-    ∷ feed (pos 40400) (pos 0) 120 true
-    ∷ rapid (pos 40400) (pos 2000)
-    ∷ miscellaneous (pos 40400) (pos 2000) 30
+    -- P9, as 02 has it: from X40.8 to X40., Z2. to Z0
+    ∷ alarms "%1\nN10 G00 X40.8 Z2.\nN20 G84 X40. Z0 D0=400 F120\nN30 M30" 19 21 1
+    ∷ lists "%1\nN10 G00 X40.8 Z2.\nN20 G84 X40. Z0 D0=399 F120\nN30 M30"
+    (rapid (pos 40800) (pos 2000)
+    ∷ rapid (pos 40798) (pos 2000)
+    ∷ feed (pos 40798) (pos 0) 120 true
+    ∷ feed (pos 40800) (pos 0) 120 true
+    ∷ rapid (pos 40800) (pos 2000)
+    ∷ miscellaneous (pos 40800) (pos 2000) 30
     ∷ [])
     -- P10
     ∷ alarms "%1\nN10 T0101\nN20 G01 X1.\nN30 M30" 16 13 1
-    -- the listing that 01 prints
+    -- the listing that 01 prints, with the pass lines of 02
     ∷ lists "%1\nN10 G00 X40. Z2.\nN20 G84 X30. Z-20. D0=400 D2=100 D3=2500 F120\nN30 M30"
     (rapid (pos 40000) (pos 2000)
-    ∷ rapid (pos 35200) (pos 2000)
-    ∷ feed (pos 35200) (minus 19900) 120 true
+    ∷ rapid (pos 35400) (pos 2000)
+    ∷ feed (pos 35400) (minus 19900) 120 true
     ∷ feed (pos 40000) (minus 19900) 120 true
     ∷ rapid (pos 40000) (pos 2000)
-    ∷ rapid (pos 30400) (pos 2000)
-    ∷ feed (pos 30400) (minus 19900) 120 true
+    ∷ rapid (pos 30800) (pos 2000)
+    ∷ feed (pos 30800) (minus 19900) 120 true
     ∷ feed (pos 40000) (minus 19900) 120 true
     ∷ rapid (pos 40000) (pos 2000)
     ∷ miscellaneous (pos 40000) (pos 2000) 30
     ∷ [])
-    -- a facing G84 with D0, D2 and D3: 7,000 less 99 in pieces of at most 3,500 is 3,451 and 3,450; the end line is X20. and 400 more
+    -- a facing G84 with D0, D2 and D3: 7,000 less 99 in pieces of at most 3,500 is 3,451 and 3,450; the end line is X20. and twice 400 more
     ∷ lists "%1\nN10 G00 X40. Z2.\nN20 G84 Z-5. X20. D0=400 D2=99 D3=3500 F120\nN30 M30"
     (rapid (pos 40000) (pos 2000)
     ∷ rapid (pos 40000) (minus 1451)
-    ∷ feed (pos 20400) (minus 1451) 120 true
-    ∷ feed (pos 20400) (pos 2000) 120 true
+    ∷ feed (pos 20800) (minus 1451) 120 true
+    ∷ feed (pos 20800) (pos 2000) 120 true
     ∷ rapid (pos 40000) (pos 2000)
     ∷ rapid (pos 40000) (minus 4901)
-    ∷ feed (pos 20400) (minus 4901) 120 true
-    ∷ feed (pos 20400) (pos 2000) 120 true
+    ∷ feed (pos 20800) (minus 4901) 120 true
+    ∷ feed (pos 20800) (pos 2000) 120 true
     ∷ rapid (pos 40000) (pos 2000)
     ∷ miscellaneous (pos 40000) (pos 2000) 30
     ∷ [])

@@ -30,7 +30,7 @@ pub rapid-line : recordLine (rapid (pos 40000) (pos 2000)) ≡ printed (bytes "1
 unfolding recordLine signed decimal digits digitsUp
 rapid-line = refl
 
-pub feed-line : recordLine (feed (pos 35200) (minus 19900) 120 true) ≡ printed (bytes "2 1 35200 -19900 120")
+pub feed-line : recordLine (feed (pos 35400) (minus 19900) 120 true) ≡ printed (bytes "2 1 35400 -19900 120")
 unfolding recordLine signed decimal digits digitsUp
 feed-line = refl
 
@@ -47,17 +47,17 @@ abbrev turn : ℤ → List Record
 turn x = rapid x (pos 2000) ∷ feed x (minus 19900) 120 true ∷ feed (pos 40000) (minus 19900) 120 true ∷ rapid (pos 40000) (pos 2000) ∷ []
 
 abbrev list : List ℕ
-list = listBytes (rapid (pos 40000) (pos 2000) ∷ (turn (pos 35200) ++ (turn (pos 30400) ++ (miscellaneous (pos 40000) (pos 2000) 30 ∷ []))))
+list = listBytes (rapid (pos 40000) (pos 2000) ∷ (turn (pos 35400) ++ (turn (pos 30800) ++ (miscellaneous (pos 40000) (pos 2000) 30 ∷ []))))
 
 pub listing : listingOf (Complete 10) list ≡
     printed (bytes "TMV 1 10")
     ++ (printed (bytes "1 0 40000 2000 0")
-    ++ (printed (bytes "1 0 35200 2000 0")
-    ++ (printed (bytes "2 1 35200 -19900 120")
+    ++ (printed (bytes "1 0 35400 2000 0")
+    ++ (printed (bytes "2 1 35400 -19900 120")
     ++ (printed (bytes "2 1 40000 -19900 120")
     ++ (printed (bytes "1 0 40000 2000 0")
-    ++ (printed (bytes "1 0 30400 2000 0")
-    ++ (printed (bytes "2 1 30400 -19900 120")
+    ++ (printed (bytes "1 0 30800 2000 0")
+    ++ (printed (bytes "2 1 30800 -19900 120")
     ++ (printed (bytes "2 1 40000 -19900 120")
     ++ (printed (bytes "1 0 40000 2000 0")
     ++ printed (bytes "6 0 40000 2000 30"))))))))))

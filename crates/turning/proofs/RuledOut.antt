@@ -53,19 +53,19 @@ thin-last-pass t = thin-last (depths-row (t .divided (omega arith)))
 
 -- A FEED PAST THE ALLOWANCE of the path: the passes of the listed block end at its Z target, though D2 leaves 100
 pub to-the-target : Turned listed
-    (rapidTo false (pos 35200) (pos 2000)
-    ∷ feedTo false 120 true (pos 35200) (negsuc 19999)
+    (rapidTo false (pos 35400) (pos 2000)
+    ∷ feedTo false 120 true (pos 35400) (negsuc 19999)
     ∷ feedTo false 120 true (pos 40000) (negsuc 19999)
     ∷ rapidTo false (pos 40000) (pos 2000)
-    ∷ rapidTo false (pos 30400) (pos 2000)
-    ∷ feedTo false 120 true (pos 30400) (negsuc 19999)
+    ∷ rapidTo false (pos 30800) (pos 2000)
+    ∷ feedTo false 120 true (pos 30800) (negsuc 19999)
     ∷ feedTo false 120 true (pos 40000) (negsuc 19999)
     ∷ rapidTo false (pos 40000) (pos 2000)
     ∷ []) → ⊥
 unfolding rapidTo feedTo FeedsWithin
 to-the-target t = let k = t .kept .1 .0 refl .to .path in absurd (omega (whole, k))
 
--- and past that of the infeed, with no division: one pass on the X target, though D0 leaves 400
+-- and past that of the infeed, with no division: one pass on the X target, though D0 leaves 800
 abbrev pub undivided : Turning
 undivided = record { facing = false; infeed = listed .infeed; path = listed .path; division = 0; f = 120; g95 = true }
 
@@ -73,14 +73,14 @@ pub all-of-the-infeed : Turned undivided (cutAs undivided (10000 ∷ [])) → �
 unfolding rapidTo feedTo passOn passes FeedsWithin
 all-of-the-infeed t = let k = t .kept .1 .0 refl .to .infeed in absurd (omega (whole, k))
 
--- A CUT FROM TOO DEEP: each pass of the listed block begins on the X target, though D0 leaves 400, and its feed ends where it should
+-- A CUT FROM TOO DEEP: each pass of the listed block begins on the X target, though D0 leaves 800, and its feed ends where it should
 pub cut-from-too-deep : Turned listed
     (rapidTo false (pos 30000) (pos 2000)
-    ∷ feedTo false 120 true (pos 35200) (negsuc 19899)
+    ∷ feedTo false 120 true (pos 35400) (negsuc 19899)
     ∷ feedTo false 120 true (pos 40000) (negsuc 19899)
     ∷ rapidTo false (pos 40000) (pos 2000)
     ∷ rapidTo false (pos 30000) (pos 2000)
-    ∷ feedTo false 120 true (pos 30400) (negsuc 19899)
+    ∷ feedTo false 120 true (pos 30800) (negsuc 19899)
     ∷ feedTo false 120 true (pos 40000) (negsuc 19899)
     ∷ rapidTo false (pos 40000) (pos 2000)
     ∷ []) → ⊥
@@ -89,8 +89,8 @@ cut-from-too-deep t = let k = t .kept .1 .0 refl .from .infeed in absurd (omega 
 
 -- A CUT ON A SLANT, which would be no pass and so no depth, at the head of any row of records of the listed block
 pub slanted : (rs : List Record) → Turned listed
-    (rapidTo false (pos 30401) (pos 2000)
-    ∷ feedTo false 120 true (pos 30400) (negsuc 19899)
+    (rapidTo false (pos 30801) (pos 2000)
+    ∷ feedTo false 120 true (pos 30800) (negsuc 19899)
     ∷ rs) → ⊥
 unfolding rapidTo feedTo FeedsWithin
 slanted rs t = false≢true (t .kept .1 .0 refl .straight)

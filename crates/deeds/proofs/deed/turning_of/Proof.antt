@@ -1,5 +1,6 @@
 -- `deeds::deed::turning_of` meets its contract.
 use mathlib.Core.Path.{sym, _∙_}
+use native.Mathlib.Omega.{arith}
 use mir.Syntax.{w32}
 use mir.Val.{SFits}
 use Rattle.deeds.specs.Deed.{xAxis, zAxis}
@@ -21,7 +22,7 @@ returns c =
     let d2 = h .before .before .before in
     let d0 = d2 .before .before in
     let a = d0 .before .args in
-    cycle-made (a .b) (a .s) (sym (c .if1 .taken) ∙ h .is-facing .ensures) (axis-read (xAxis (a .b) (a .s)) (x (d0 .before)) (d0 .d-word .ensures .0))
+    cycle-made (a .b) (a .s) (sym (c .if1 .taken) ∙ h .is-facing .ensures) (axis-read (xAxis (a .b) (a .s)) (x (d0 .before)) (omega (arith, d0 .d-word .ensures .0)))
     (axis-read (zAxis (a .b) (a .s)) (z (d0 .before)) (d2 .d-word2 .ensures .0)) (h .before .d-word3 .ensures .0)
 
 returns-2 : tie.Need-returns-2
@@ -30,7 +31,7 @@ returns-2 c =
     let d2 = h .before .before .before in
     let d0 = d2 .before .before in
     let a = d0 .before .args in
-    cycle-made (a .b) (a .s) (sym (c .if1 .left) ∙ h .is-facing .ensures) (axis-read (xAxis (a .b) (a .s)) (x (d0 .before)) (d0 .d-word .ensures .0))
+    cycle-made (a .b) (a .s) (sym (c .if1 .left) ∙ h .is-facing .ensures) (axis-read (xAxis (a .b) (a .s)) (x (d0 .before)) (omega (arith, d0 .d-word .ensures .0)))
     (axis-read (zAxis (a .b) (a .s)) (z (d0 .before)) (d2 .d-word2 .ensures .0)) (h .before .d-word3 .ensures .0)
 
 pub turning-of-spec : {M : Type 1} → statement M
@@ -38,6 +39,7 @@ turning-of-spec =
     tie.close
     (tie.spec
     (λ c κs. search needs)
+    (λ c. search needs)
     (λ c κs. search needs)
     (λ c κs. search needs)
     (λ c κs. search needs)
