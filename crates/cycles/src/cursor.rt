@@ -5,6 +5,7 @@ use moves::record::Record;
 ghost use mathlib.Core.Path.{_≡_};
 ghost use mathlib.Core.Bool.{false};
 ghost use Rattle.cycles.specs.Cycle.{wrong, records};
+ghost use Rattle.cycles.specs.Known.{Known};
 ghost use Rattle.cycles.specs.Cursor.{restOf, over, Sound, Makes};
 
 pub enum Cursor {
@@ -19,7 +20,7 @@ pub struct Handed {
 
 // A cycle before its first record. Alarm 19 was judged before.
 pub fn open(c: Cycle) -> Cursor
-    requires { ⌜ wrong c ≡ false ⌝ }
+    requires { ⌜ (wrong c ≡ false) × Known c ⌝ }
     ensures { λ r. ⌜ (restOf r ≡ records c) × Sound r ⌝ }
 {
     match c {

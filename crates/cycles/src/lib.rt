@@ -51,7 +51,7 @@ pub fn least_feed(c: Cycle) -> u32
 
 // Alarm 18: a move of the cycle ends outside the limits. Alarm 19 was judged before.
 pub fn ends_outside(c: Cycle, l: Limits) -> bool
-    requires { ⌜ wrong c ≡ false ⌝ }
+    requires { ⌜ (wrong c ≡ false) × Known c ⌝ }
     ensures { λ r. ⌜ r ≡ anyOutside l (records c) ⌝ }
 {
     match c {
@@ -73,7 +73,7 @@ pub fn record_count(c: Cycle) -> u64
 
 // Writes the records of a cycle, from record k on. Its lengths and its room were asked for before (alarms 19 and 20).
 pub fn put_cycle(buf: &mut [u8], k: usize, c: Cycle)
-    requires { ⌜ (wrong c ≡ false) × (recordStart (k + length (records c)) ≤ length (now buf)) ⌝ }
+    requires { ⌜ (wrong c ≡ false) × Known c × (recordStart (k + length (records c)) ≤ length (now buf)) ⌝ }
     ensures { λ _. ⌜ now (buf .exit) ≡ laid (now (buf .entry)) (recordStart k) (rowBytes (records c)) ⌝ }
 {
     let opened = cursor::open(c);

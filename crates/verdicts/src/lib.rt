@@ -12,6 +12,7 @@ ghost use Rattle.state.specs.Modal.{settled};
 ghost use Rattle.state.specs.Known.{Sound};
 ghost use Rattle.settings.specs.Known.{Table, InRange};
 ghost use Rattle.deeds.specs.Known.{Known};
+ghost use Rattle.verdicts.specs.Known as verdict;
 ghost use Rattle.verdicts.specs.Verdicts.{sendingOf, deedIn, askedIn, verdictOf};
 
 // A block that may be done: the state that its words have settled, its deed, and how many records the deed has.
@@ -72,7 +73,7 @@ fn asked_in(s: State, t: State, b: Block, room: u32) -> Asked
 // The verdict on a block, where so many records may still be written. Whoever asks has judged the settings and the table (alarm 1), and has read the block.
 pub fn judge_block(table: &[i32], set: Settings, s: State, b: Block, room: u32) -> Verdict
     requires { ⌜ Table (now table) × InRange set × Sound s × Worded b ⌝ }
-    ensures { λ r. ⌜ r ≡ verdictOf (now (table .entry)) set s b room ⌝ }
+    ensures { λ r. ⌜ (r ≡ verdictOf (now (table .entry)) set s b room) × verdict.Known r ⌝ }
 {
     let settled = state::modal::settle(s, b);
     let deed = deed_in(table, set, s, settled, b);

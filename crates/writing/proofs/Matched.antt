@@ -13,10 +13,11 @@ use Rattle.moves.specs.declared.record.Record.{Record}
 use Rattle.moves.proofs.Rows.{row-one}
 use Rattle.block.specs.declared.words.Block.{Block}
 use Rattle.cycles.specs.Cycle as cycle
+use Rattle.cycles.specs.Known as known
 use Rattle.cycles.specs.declared.Cycle as cycles
 use Rattle.state.specs.declared.modal.State.{State}
 use Rattle.asking.specs.Judge.{doing}
-use Rattle.deeds.specs.Known.{Right}
+use Rattle.deeds.specs.Known.{Right, Known}
 use Rattle.deeds.specs.declared.deed.Deed.{Deed}
 use Rattle.deeds.specs.declared.deed.Deed.the-variants.{Cycle}
 use Rattle.writing.specs.Writes.{mOf, done}
@@ -50,11 +51,11 @@ module _ {d e : Deed} (is : d ≡ e) (k : ℕ) where
   pub row-written : (v : List Record) (b : List ℕ) {l : List ℕ} → l ≡ laid b (recordStart k) (rowBytes v) → doing e ≡ v → l ≡ laid b (recordStart k) (rowBytes (doing d))
   row-written v b h w = h ∙ ap (λ (v : List Record). laid b (recordStart k) (rowBytes v)) (sym w ∙ doing-by is)
 
--- a cycle's room, as it is asked for
-pub cycle-room : {d : Deed} {c : cycles.Cycle} (k n : ℕ) → d ≡ Cycle c → Right d → recordStart (k + length (doing d)) ≤ n
-    → (cycle.wrong c ≡ false) × (recordStart (k + length (cycle.records c)) ≤ n)
+-- what is asked for where a cycle is written
+pub cycle-room : {d : Deed} {c : cycles.Cycle} (k n : ℕ) → d ≡ Cycle c → Right d → Known d → recordStart (k + length (doing d)) ≤ n
+    → (cycle.wrong c ≡ false) × known.Known c × (recordStart (k + length (cycle.records c)) ≤ n)
 unfolding doing
-cycle-room k n is h l = (subst Right is h, omega (arith, l, ap length (doing-by is)))
+cycle-room k n is h j l = (subst Right is h, subst Known is j, omega (arith, l, ap length (doing-by is)))
 
 -- the record of M00 or M30, of the state that the code has made
 pub stop-made : {s t : State} (b : Block) (k : ℕ) {r : Record} → r ≡ mOf s b k → s ≡ t → r ≡ mOf t b k

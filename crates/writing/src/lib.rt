@@ -10,7 +10,7 @@ ghost use lib.ListN.{length};
 ghost use Rattle.whole.specs.Bytes.{laid};
 ghost use Rattle.moves.specs.Form.{recordStart, rowBytes};
 ghost use Rattle.asking.specs.Judge.{doing};
-ghost use Rattle.deeds.specs.Known.{Right};
+ghost use Rattle.deeds.specs.Known.{Right, Known};
 ghost use Rattle.writing.specs.Writes.{oneIf, numberIf, speedOf, toolOf, mOf, speedAndTool, spindleAndCoolant, moved, done, stops, writes, otherCount};
 
 // The groups of the M words: M03 M04 M05; M08 M09; M00 M17 M30.
@@ -79,7 +79,7 @@ fn put_spindle_and_coolant(buf: &mut [u8], k: usize, s: State, b: Block) -> usiz
 
 // Writes the records of a deed, from number k on.
 fn put_deed(buf: &mut [u8], k: usize, d: Deed)
-    requires { ⌜ Right d × (recordStart (k + length (doing d)) ≤ length (now buf)) ⌝ }
+    requires { ⌜ Right d × Known d × (recordStart (k + length (doing d)) ≤ length (now buf)) ⌝ }
     ensures { λ _. ⌜ now (buf .exit) ≡ laid (now (buf .entry)) (recordStart k) (rowBytes (doing d)) ⌝ }
 {
     match d {
@@ -158,7 +158,7 @@ pub fn other_count(b: Block) -> u32
 
 // Writes the records of a block, of which `count` are its deed's, from number k on, and answers the number of the next record.
 pub fn put_writes(buf: &mut [u8], k: usize, s: State, b: Block, d: Deed, count: usize) -> usize
-    requires { ⌜ Right d × (count ≡ length (doing d)) × (recordStart (k + length (writes s b d)) ≤ length (now buf)) ⌝ }
+    requires { ⌜ Right d × Known d × (count ≡ length (doing d)) × (recordStart (k + length (writes s b d)) ≤ length (now buf)) ⌝ }
     ensures { λ r. ⌜ (r ≡ k + length (writes s b d)) × (now (buf .exit) ≡ laid (now (buf .entry)) (recordStart k) (rowBytes (writes s b d))) ⌝ }
 {
     let second = put_speed_and_tool(buf, k, s, b);

@@ -33,6 +33,6 @@ of-cycle-spec =
     (λ c κs. search needs)
     (λ c κs. search needs)
     returns
-    (λ c κs. is-right c)
+    (λ c κs. (is-right c, c .before .before .before .pre))
     (λ c κs. (is-right (c .before), c .before .before .before .before .pre))
     returns-2)

@@ -10,8 +10,8 @@ ends-outside-spec =
     tie.close
     (tie.spec
     (λ c. search needs)
-    (λ c κs. right (c .before .c .given .1) (c .before .before .before .pre))
+    (λ c κs. right (c .before .c .given .1) (c .before .before .before .pre .0))
     (λ c. search needs)
-    (λ c κs. right (c .before .c2 .given .1) (c .before .before .before .pre))
+    (λ c κs. right (c .before .c2 .given .1) (c .before .before .before .pre .0))
     (λ c. c .ends-outside .ensures ∙ asks (c .before .before .c .given .1) (c .before .before .before .before .args .l))
     (λ c. c .ends-outside2 .ensures ∙ asks (c .before .before .c2 .given .1) (c .before .before .before .before .args .l)))

@@ -14,7 +14,7 @@ put-rest-requires : tie.Need-put-rest-requires
 put-rest-requires c κs =
     let o = c .before in
     let s = o .before .before in
-    (o .«open» .ensures .1, omega (arith, ap length (o .«open» .ensures .0), s .pre .1))
+    (o .«open» .ensures .1, omega (arith, ap length (o .«open» .ensures .0), s .pre .2))
 
 returns : tie.Need-returns
 returns c =

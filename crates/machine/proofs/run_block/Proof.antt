@@ -14,6 +14,8 @@ use Rattle.asking.specs.Judge.{doing}
 use Rattle.deeds.specs.Known.{Right}
 use Rattle.writing.specs.Writes.{writes}
 use Rattle.verdicts.specs.Verdicts.{goingOf, verdictOf}
+use Rattle.verdicts.specs.Known.{Known}
+use Rattle.verdicts.specs.declared.Verdict.{Verdict}
 use Rattle.verdicts.specs.declared.Going.{Going}
 use Rattle.verdicts.proofs.Passing.{went, was-refused, right-in, counted-in}
 use Rattle.machine.proofs.Running.{refused, nothing-written, done-few, done-recorded, going-records, going-state, went-well}
@@ -29,7 +31,7 @@ verdict-is : (c : tie.After-judge-block) →
     c .judge-block .result ≡ verdictOf (now (a .table)) (a .set) (a .s) (a .b) (roomOf (length (now (a .buf))) - a .k)
 verdict-is c =
     let a = c .before .before .before .args in
-    c .judge-block .ensures ∙ ap (λ (n : ℕ). verdictOf (now (a .table)) (a .set) (a .s) (a .b) (n - a .k)) (c .before .room .ensures)
+    c .judge-block .ensures .0 ∙ ap (λ (n : ℕ). verdictOf (now (a .table)) (a .set) (a .s) (a .b) (n - a .k)) (c .before .room .ensures)
 
 put-writes-requires : tie.Need-put-writes-requires
 unfolding goingOf
@@ -44,6 +46,7 @@ put-writes-requires c κs =
     let few = done-few (now (a .table)) (a .set) (a .s) (a .b) (room - a .k) (w .well) in
     let same = going-records (now (a .table)) (a .set) (a .s) (a .b) (w .is) in (
       subst (λ (x : Going). Right (x .deed)) (sym (w .is)) (right-in (now (a .table)) (a .set) (a .s) (a .b) (room - a .k) (w .well)),
+      subst Known (m .verdict2 .given .1) (j .judge-block .ensures .1),
       subst (λ (x : Going). x .count ≡ length (doing (x .deed))) (sym (w .is)) (counted-in (now (a .table)) (a .set) (a .s) (a .b) (room - a .k) (w .well)),
       room-fits (length (now (a .buf))) (a .k + length (writes (g .settled) (a .b) (g .deed))) (s .pre .4) (omega (arith, few, ap length same, s .pre .5)),
     )

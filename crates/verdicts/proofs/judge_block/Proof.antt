@@ -34,15 +34,18 @@ returns : tie.Need-returns
 returns c =
     let l = c .before in
     let a = start-at l .args in
-    ap Refused (judged l) ∙ sym (verdict-refused (now (a .table)) (a .set) (a .s) (a .b) (a .room) (λ e. c .if1 .taken (judged l ∙ e)))
+    (ap Refused (judged l) ∙ sym (verdict-refused (now (a .table)) (a .set) (a .s) (a .b) (a .room) (λ e. c .if1 .taken (judged l ∙ e))), tt)
 
 returns-2 : tie.Need-returns-2
 unfolding goingOf
 returns-2 c =
     let l = c .before in
     let a = start-at l .args in
-    (λ i. Goes (record { settled = deed-at l .before .settle .ensures i; deed = deed-at l .deed-in .ensures .0 i; count = asked l i .count }))
-    ∙ sym (verdict-goes (now (a .table)) (a .set) (a .s) (a .b) (a .room) (sym (judged l) ∙ c .if1 .left))
+    (
+      (λ i. Goes (record { settled = deed-at l .before .settle .ensures i; deed = deed-at l .deed-in .ensures .0 i; count = asked l i .count }))
+          ∙ sym (verdict-goes (now (a .table)) (a .set) (a .s) (a .b) (a .room) (sym (judged l) ∙ c .if1 .left)),
+      deed-at l .deed-in .ensures .1,
+    )
 
 pub judge-block-spec : {M : Type 1} → statement M
 judge-block-spec =

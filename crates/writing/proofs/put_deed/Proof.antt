@@ -14,20 +14,20 @@ unfolding doing
 write-record-requires c κs =
     let m = c .before .before in
     let a = m .before .before .before in
-    one-room (m .d .given .1) (a .args .k) (length (now (a .args .buf))) refl (a .pre .1)
+    one-room (m .d .given .1) (a .args .k) (length (now (a .args .buf))) refl (a .pre .2)
 
 write-record-requires-2 : tie.Need-write-record-requires-2
 unfolding doing
 write-record-requires-2 c κs =
     let m = c .before .before .before in
     let a = m .before .before .before in
-    one-room (m .d2 .given .1) (a .args .k) (length (now (a .args .buf))) refl (a .pre .1)
+    one-room (m .d2 .given .1) (a .args .k) (length (now (a .args .buf))) refl (a .pre .2)
 
 put-cycle-requires : tie.Need-put-cycle-requires
 put-cycle-requires c κs =
     let m = c .before .before in
     let a = m .before .before .before in
-    cycle-room (a .args .k) (length (now (a .args .buf))) (m .d3 .given .1) (a .pre .0) (a .pre .1)
+    cycle-room (a .args .k) (length (now (a .args .buf))) (m .d3 .given .1) (a .pre .0) (a .pre .1) (a .pre .2)
 
 returns : tie.Need-returns
 unfolding doing

@@ -11,8 +11,8 @@ open-spec =
     tie.close
     (tie.spec
     (λ c. search needs)
-    (λ c κs. right (c .before .c .given .1) (c .before .before .before .pre))
+    (λ c κs. right (c .before .c .given .1) (c .before .before .before .pre .0))
     (λ c. search needs)
-    (λ c κs. right (c .before .c2 .given .1) (c .before .before .before .pre))
+    (λ c κs. right (c .before .c2 .given .1) (c .before .before .before .pre .0))
     (λ c. (c .open .ensures .0 ∙ ap records (sym (c .before .before .c .given .1)), c .open .ensures .1))
     (λ c. (c .open2 .ensures .0 ∙ ap records (sym (c .before .before .c2 .given .1)), c .open2 .ensures .1)))
