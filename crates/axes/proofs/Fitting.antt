@@ -7,7 +7,7 @@ use lib.IntN.{ℤ}
 use mir.Syntax.{w32}
 use mir.Val.{SFits}
 use Rattle.moves.specs.Form.{Fitting}
-use Rattle.axes.specs.Goes.{rapidTo, feedTo, dwellAt}
+use Rattle.axes.specs.Goes.{rapidTo, feedTo, threadTo, dwellAt}
 
 pub rapid-fitting : (facing : Bool) {i a : ℤ} → SFits w32 i → SFits w32 a → Fitting (rapidTo facing i a)
 unfolding rapidTo
@@ -20,6 +20,11 @@ feed-fitting true f true v h g = record { kind = omega arith; flags = omega arit
 feed-fitting true f false v h g = record { kind = omega arith; flags = omega arith; x = g; z = h; value = v }
 feed-fitting false f true v h g = record { kind = omega arith; flags = omega arith; x = h; z = g; value = v }
 feed-fitting false f false v h g = record { kind = omega arith; flags = omega arith; x = h; z = g; value = v }
+
+pub thread-fitting : (facing : Bool) (pitch : ℕ) {i a : ℤ} → pitch < 2 ^ 32 → SFits w32 i → SFits w32 a → Fitting (threadTo facing pitch i a)
+unfolding threadTo
+thread-fitting true pitch v h g = record { kind = omega arith; flags = omega arith; x = g; z = h; value = v }
+thread-fitting false pitch v h g = record { kind = omega arith; flags = omega arith; x = h; z = g; value = v }
 
 pub dwell-fitting : (facing : Bool) (t : ℕ) {i a : ℤ} → t < 2 ^ 32 → SFits w32 i → SFits w32 a → Fitting (dwellAt facing t i a)
 unfolding dwellAt

@@ -7,7 +7,7 @@ use lib.Dec.{T}
 use lib.IntN.{ℤ}
 use Rattle.settings.specs.declared.limits.Span.{Span}
 use Rattle.settings.specs.declared.limits.Limits.{Limits}
-use Rattle.axes.specs.Goes.{rapidTo, feedTo, dwellAt}
+use Rattle.axes.specs.Goes.{rapidTo, feedTo, threadTo, dwellAt}
 use Rattle.settings.specs.Limits.{outsideSpan, outside}
 use Rattle.axes.specs.Limits.{outsideTo}
 
@@ -56,6 +56,11 @@ pub feed-ends : (l : Limits) (facing : Bool) (f : ℕ) (g95 : Bool) (i a : ℤ) 
 unfolding feedTo
 feed-ends l true f g95 i a = refl
 feed-ends l false f g95 i a = refl
+
+pub thread-ends : (l : Limits) (facing : Bool) (pitch : ℕ) (i a : ℤ) → outside l (threadTo facing pitch i a .x) (threadTo facing pitch i a .z) ≡ outsideTo l facing i a
+unfolding threadTo
+thread-ends l true pitch i a = refl
+thread-ends l false pitch i a = refl
 
 pub dwell-ends : (l : Limits) (facing : Bool) (t : ℕ) (i a : ℤ) → outside l (dwellAt facing t i a .x) (dwellAt facing t i a .z) ≡ outsideTo l facing i a
 unfolding dwellAt

@@ -2,7 +2,7 @@
 // Positions lie on either side of each other: distance and side are worked out around zero.
 ghost use mathlib.Core.Path.{_≡_};
 ghost use Prim.Native.Nat.{_<_};
-ghost use Rattle.axes.specs.Axis.{net, allowanceLine};
+ghost use Rattle.axes.specs.Axis.{distance, net, allowanceLine};
 
 // Where the tool stands, where the block sends it, and the allowance that is left there.
 pub struct Axis {
@@ -11,14 +11,21 @@ pub struct Axis {
     pub allowance: u32,
 }
 
+// The distance from start to target.
+pub fn distance_of(a: Axis) -> u32
+    ensures { λ r. ⌜ r ≡ distance a ⌝ }
+{
+    let start = a.start;
+    let target = a.target;
+    whole::signed::distance(target, start)
+}
+
 // The distance less the allowance, 0 where the allowance takes it all.
 pub fn net_of(a: Axis) -> u32
     ensures { λ r. ⌜ r ≡ net a ⌝ }
 {
-    let start = a.start;
-    let target = a.target;
     let allowance = a.allowance;
-    let distance = whole::signed::distance(target, start);
+    let distance = distance_of(a);
     if distance < allowance {
         return 0;
     }
