@@ -37,6 +37,7 @@ motion-needs motion.Feed = omega arith
 motion-needs motion.Thread = omega arith
 motion-needs motion.Dwell = omega arith
 motion-needs motion.Turning = omega arith
+motion-needs motion.Threading = omega arith
 motion-needs motion.Grooving = omega arith
 
 pub needs-in : (k : Code) → standsBy k .needs ≤ none
@@ -51,3 +52,27 @@ needs-in (code.Of g means.Spindle) = omega arith
 needs-in (code.Of g means.Coolant) = omega arith
 needs-in (code.Of g (means.Flows f)) = omega arith
 needs-in code.Unknown = omega arith
+
+-- and so has the D word that counts as bits
+motion-bits : (m : Motion) → standsWith m .bits ≤ none
+unfolding standsWith standsFreely
+motion-bits motion.Rapid = omega arith
+motion-bits motion.Feed = omega arith
+motion-bits motion.Thread = omega arith
+motion-bits motion.Dwell = omega arith
+motion-bits motion.Turning = omega arith
+motion-bits motion.Threading = omega arith
+motion-bits motion.Grooving = omega arith
+
+pub bits-in : (k : Code) → standsBy k .bits ≤ none
+unfolding standsBy standsFreely
+bits-in (code.Of g (means.Moves m)) = motion-bits m
+bits-in (code.Of g (means.CuttingSpeed t)) = omega arith
+bits-in (code.Of g (means.PerRevolution t)) = omega arith
+bits-in (code.Of g (means.Shift k)) = omega arith
+bits-in (code.Of g (means.Steers s)) = omega arith
+bits-in (code.Of g means.Metric) = omega arith
+bits-in (code.Of g means.Spindle) = omega arith
+bits-in (code.Of g means.Coolant) = omega arith
+bits-in (code.Of g (means.Flows f)) = omega arith
+bits-in code.Unknown = omega arith

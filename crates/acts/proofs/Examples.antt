@@ -54,6 +54,10 @@ pub stays : keep (kept.Of motion.Turning) (kept.Of motion.Feed) ≡ kept.Of moti
 unfolding keep
 stays = refl
 
+pub threads-stay : keep (kept.Of motion.Threading) (kept.Of motion.Feed) ≡ kept.Of motion.Feed
+unfolding keep
+threads-stay = refl
+
 -- "D0 D2 D3 with G84; D3 D4 D5 with G86"
 pub with-g84 : map (isTaken (standsWith motion.Turning .takes)) (0 ∷ 1 ∷ 2 ∷ 3 ∷ 4 ∷ 5 ∷ []) ≡ (true ∷ false ∷ true ∷ true ∷ false ∷ false ∷ [])
 unfolding standsWith isTaken
@@ -62,6 +66,12 @@ with-g84 = refl
 pub with-g86 : map (isTaken (standsWith motion.Grooving .takes)) (0 ∷ 1 ∷ 2 ∷ 3 ∷ 4 ∷ 5 ∷ []) ≡ (false ∷ false ∷ false ∷ true ∷ true ∷ true ∷ [])
 unfolding standsWith isTaken
 with-g86 = refl
+
+-- 02, G85: "D words but D3 D4 D6 D7 .. in 9"
+pub with-g85 : map (isTaken (standsWith motion.Threading .takes)) (0 ∷ 1 ∷ 2 ∷ 3 ∷ 4 ∷ 5 ∷ 6 ∷ 7 ∷ 8 ∷ 9 ∷ [])
+    ≡ (false ∷ false ∷ false ∷ true ∷ true ∷ false ∷ true ∷ true ∷ false ∷ false ∷ [])
+unfolding standsWith isTaken
+with-g85 = refl
 
 -- a motion that takes no D word
 pub with-g01 : map (isTaken (standsWith motion.Feed .takes)) (0 ∷ 1 ∷ 2 ∷ 3 ∷ 4 ∷ 5 ∷ 6 ∷ 7 ∷ 8 ∷ 9 ∷ [])

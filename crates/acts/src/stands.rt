@@ -1,5 +1,6 @@
 // What a motion asks of the other words of its block, and what it forbids: a row for each. (01: "no G04 with G25 or G27; .. G04 takes no path word; D4 stands with G04 (missing: a dwell
-// of 0); D0 D2 D3 with G84; D3 D4 D5 with G86; no other P or D. G84 and G86 need one word of each axis, G86 also D5.")
+// of 0); D0 D2 D3 with G84; D3 D4 D5 with G86; no other P or D. G84 and G86 need one word of each axis, G86 also D5." 02, G85: "D words but D3 D4 D6 D7, an axis
+// missing or D7 above 7 in 9".)
 use codes::meaning::Code;
 use codes::meaning::Meaning;
 use codes::meaning::Motion;
@@ -18,6 +19,8 @@ pub struct Stands {
     pub takes: [usize; 4],
     // the D word that it needs, NONE for none
     pub needs: usize,
+    // the D word that counts as bits, NONE for none
+    pub bits: usize,
     pub path: Path,
     // whether it may stand with G25 or G27, as far as this is asked by itself
     pub calls: bool,
@@ -26,12 +29,16 @@ pub struct Stands {
 // No index of a D word: those are 0 to 9.
 pub const NONE: usize = 10;
 
+// A D word that counts as bits has three of them.
+pub const GREATEST_BITS: u32 = 7;
+
 pub fn stands_freely() -> Stands
     ensures { λ r. ⌜ r ≡ standsFreely ⌝ }
 {
     Stands {
         takes: [NONE; 4],
         needs: NONE,
+        bits: NONE,
         path: Path::Any,
         calls: true,
     }
@@ -47,18 +54,28 @@ pub fn stands_with(m: Motion) -> Stands
         Motion::Dwell => Stands {
             takes: [4, NONE, NONE, NONE],
             needs: NONE,
+            bits: NONE,
             path: Path::Forbidden,
             calls: false,
         },
         Motion::Turning => Stands {
             takes: [0, 2, 3, NONE],
             needs: NONE,
+            bits: NONE,
+            path: Path::EachAxis,
+            calls: true,
+        },
+        Motion::Threading => Stands {
+            takes: [3, 4, 6, 7],
+            needs: NONE,
+            bits: 7,
             path: Path::EachAxis,
             calls: true,
         },
         Motion::Grooving => Stands {
             takes: [3, 4, 5, NONE],
             needs: 5,
+            bits: NONE,
             path: Path::EachAxis,
             calls: true,
         },

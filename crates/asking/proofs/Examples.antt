@@ -41,7 +41,7 @@ words k m x z ds = record {
 
 -- from X40. Z2. to X30. Z-20., feed 120 under G95, retract 500
 abbrev sent : Sending
-sent = record { x = pos 40000; z = pos 2000; «x_target» = pos 30000; «z_target» = negsuc 19999; f = 120; g95 = true; retract = 500 }
+sent = record { x = pos 40000; z = pos 2000; «x_target» = pos 30000; «z_target» = negsuc 19999; f = 120; g95 = true; retract = 500; «empty_cuts» = 1 }
 
 -- D0=400 D2=100 D3=2500 as in the listing, with D4=5 D5=3000 beside them, which no block has together: each cycle takes its own
 abbrev settings : List ℤ

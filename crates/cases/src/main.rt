@@ -1,6 +1,7 @@
-// Stored tapes with the listings that they must give, run through the board's door and compared: those of 01, of its readings and of manual 001, those of the alarm card, and the examples.
+// Stored tapes with the listings that they must give, run through the board's door and compared: those of 01, of its readings and of manual 001, those of threads (02, request 1), those of
+// the alarm card, and the examples.
 // A line for each: its name and `agrees`, or `DIFFERS at line N` of the listing.
-// The file `stdin` holds the first: a name, LF, lines of settings, the tape, byte 29, the listing, and byte 30. data/ALARMS.md is the card. Each line of the file `args` names an example:
+// The file `stdin` holds the first: a name, LF, lines of settings, the tape, byte 29, the listing, and byte 30; data/threads.cases holds the second in the same way. data/ALARMS.md is the card. Each line of the file `args` names an example:
 // data/examples has its tape, its listing, and its settings where they are other ones than those of `listmoves`. How each is written down the crate `stored` knows.
 mod files;
 
@@ -56,6 +57,13 @@ fn show_cases(all: &[u8]) {
         }
         p = end + 1;
     }
+}
+
+// The cases of a file of data/.
+fn show_file(name: &[u8]) {
+    let mut cases = io::large_buffer();
+    let n = files::read_file(name, &mut cases);
+    show_cases(&cases[..n]);
 }
 
 // Writes what a tape of the card must give, and what came of it.
@@ -134,6 +142,7 @@ fn show_examples() {
 
 fn show_all(all: &[u8], page: &[u8]) {
     show_cases(all);
+    show_file(b"threads.cases");
     show_long();
     show_card(page);
     show_examples();

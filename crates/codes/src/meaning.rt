@@ -10,6 +10,7 @@ pub enum Motion {
     Thread,
     Dwell,
     Turning,
+    Threading,
     Grooving,
 }
 
@@ -58,6 +59,7 @@ pub fn g_code(n: u32) -> Code
         33 => Code::Of(0, Meaning::Moves(Motion::Thread)),
         4 => Code::Of(0, Meaning::Moves(Motion::Dwell)),
         84 => Code::Of(0, Meaning::Moves(Motion::Turning)),
+        85 => Code::Of(0, Meaning::Moves(Motion::Threading)),
         86 => Code::Of(0, Meaning::Moves(Motion::Grooving)),
         96..=97 => Code::Of(1, Meaning::CuttingSpeed(n == 96)),
         94..=95 => Code::Of(2, Meaning::PerRevolution(n == 95)),

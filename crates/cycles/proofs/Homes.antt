@@ -12,10 +12,11 @@ use Rattle.axes.specs.Axis.{side}
 use Rattle.axes.specs.Goes.{rapidTo}
 use Rattle.turning.specs.Turning.{row, passFor, passOn, passes, turning}
 use Rattle.turning.specs.declared.cycle.Turning as turns
+use Rattle.threading.proofs.Counts.{threading-last}
 use Rattle.grooving.specs.Grooving.{cuts, cutting, dwelling, plunge, plunges, afterFirst, steps, grooving, outTo}
 use Rattle.grooving.specs.declared.groove.Groove.{Groove}
 use Rattle.cycles.specs.declared.Cycle.{Cycle}
-use Rattle.cycles.specs.declared.Cycle.the-variants.{Turning, Grooving}
+use Rattle.cycles.specs.declared.Cycle.the-variants.{Turning, Threading, Grooving}
 use Rattle.cycles.specs.Cycle.{records}
 use Rattle.cycles.specs.Known.{home}
 use Rattle.moves.specs.Last.{lastOf}
@@ -77,4 +78,5 @@ module _ (f : Record → ℤ) where
   -- ---- THE LAW, with a clause for each cycle
   pub goes-home : (c : Cycle) (x : ℤ) → f (home c) ≡ x → lastOf f x (records c) ≡ x
   goes-home (Turning c) x h = turning-last c x h
+  goes-home (Threading t) x h = threading-last f t x h
   goes-home (Grooving g) x h = grooving-last g x h x

@@ -12,12 +12,15 @@ use Rattle.turning.specs.declared.cycle.Turning as turns
 use Rattle.turning.specs.Turning as turn
 use Rattle.turning.proofs.Asked.{long-enough}
 use Rattle.turning.proofs.Counts as turn-laws
+use Rattle.threading.specs.declared.thread.Thread.{Thread}
+use Rattle.threading.specs.Threading as thread
+use Rattle.threading.proofs.Counts as thread-laws
 use Rattle.grooving.specs.declared.groove.Groove.{Groove}
 use Rattle.grooving.specs.Grooving as groove
 use Rattle.grooving.proofs.Counts as groove-laws
 use Rattle.grooving.proofs.Rows.{few-steps, few-plunge}
 use Rattle.cycles.specs.declared.Cycle.{Cycle}
-use Rattle.cycles.specs.declared.Cycle.the-variants.{Turning, Grooving}
+use Rattle.cycles.specs.declared.Cycle.the-variants.{Turning, Threading, Grooving}
 use Rattle.cycles.specs.Cycle.{wrong, records}
 use Rattle.cycles.specs.Known.{Known}
 
@@ -36,6 +39,15 @@ turning-lawful c e k =
     let path : turn-laws.Stands (c .path) = record { start = k .1 .0; target = k .1 .1 } in record {
       few = omega (arith, turn-laws.few-turning c infeed (long .0), turn-laws.turning-length c (long .0));
       fitting = turn-laws.turning-fitting c infeed path (k .2) (long .0) (long .1);
+    }
+
+-- ---- a thread
+thread-lawful : (t : Thread) → thread.wrong t ≡ false → Known (Threading t) → Lawful (Threading t)
+thread-lawful t e k =
+    let infeed : thread-laws.Stands (t .infeed) = record { start = k .0 .0; target = k .0 .1 } in
+    let path : thread-laws.Stands (t .path) = record { start = k .1 .0; target = k .1 .1 } in record {
+      few = omega (arith, thread-laws.few-threading t (k .3) e, thread-laws.threading-length t e);
+      fitting = thread-laws.threading-fitting t infeed path (k .2) (k .3) e;
     }
 
 -- ---- a groove
@@ -64,4 +76,5 @@ groove-lawful g e k =
 -- ---- THE LAW, with a clause for each cycle
 pub lawful : (c : Cycle) → wrong c ≡ false → Known c → Lawful c
 lawful (Turning c) e k = turning-lawful c e k
+lawful (Threading t) e k = thread-lawful t e k
 lawful (Grooving g) e k = groove-lawful g e k

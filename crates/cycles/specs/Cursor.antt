@@ -4,23 +4,27 @@ use mathlib.Core.Bool.{Bool}
 use mathlib.Core.List.{List, _∷_}
 use Rattle.moves.specs.declared.record.Record.{Record}
 use Rattle.turning.specs.Cursor as turn
+use Rattle.threading.specs.Cursor as thread
 use Rattle.grooving.specs.Cursor as groove
 use Rattle.cycles.specs.declared.cursor.Cursor.{Cursor}
-use Rattle.cycles.specs.declared.cursor.Cursor.the-variants.{Turning, Grooving}
+use Rattle.cycles.specs.declared.cursor.Cursor.the-variants.{Turning, Threading, Grooving}
 
 -- the records that are left
 abbrev pub restOf : Cursor → List Record
 restOf (Turning c) = turn.restOf c
+restOf (Threading c) = thread.restOf c
 restOf (Grooving c) = groove.restOf c
 
 -- none is left
 abbrev pub over : Cursor → Bool
 over (Turning c) = turn.over c
+over (Threading c) = thread.over c
 over (Grooving c) = groove.over c
 
 -- what every cursor keeps
 abbrev pub Sound : Cursor → Type 0
 Sound (Turning c) = turn.Sound c
+Sound (Threading c) = thread.Sound c
 Sound (Grooving c) = groove.Sound c
 
 -- one record: the first of what is left, and a cursor that has the others

@@ -4,22 +4,26 @@ use mathlib.Core.List.{List}
 use Prim.Native.Nat.{ℕ}
 use Rattle.moves.specs.declared.record.Record.{Record}
 use Rattle.turning.specs.Turning as turn
+use Rattle.threading.specs.Threading as thread
 use Rattle.grooving.specs.Grooving as groove
-use Rattle.cycles.specs.Feeds.{leastOfFeed}
+use Rattle.cycles.specs.Feeds.{leastOfFeed, leastOfPitch}
 use Rattle.cycles.specs.declared.Cycle.{Cycle}
-use Rattle.cycles.specs.declared.Cycle.the-variants.{Turning, Grooving}
+use Rattle.cycles.specs.declared.Cycle.the-variants.{Turning, Threading, Grooving}
 
 -- alarm 19: "cycle lengths, directions or tool width"
 abbrev pub wrong : Cycle → Bool
 wrong (Turning c) = turn.tooShort c
+wrong (Threading t) = thread.wrong t
 wrong (Grooving g) = groove.wrong g
 
--- alarm 17: "A move by G01, G84 or G86 needs 1 to 9999"
+-- alarm 17: "A move by G01, G84 or G86 needs 1 to 9999, by G33 10 to 9999"; 02, G85: "F the pitch", "pitch in 17", which is that of G33
 abbrev pub leastFeed : Cycle → ℕ
 leastFeed (Turning c) = leastOfFeed
+leastFeed (Threading t) = leastOfPitch
 leastFeed (Grooving g) = leastOfFeed
 
 -- the records; alarm 18 asks every one of them, alarm 20 how many they are
 abbrev pub records : Cycle → List Record
 records (Turning c) = turn.turning c
+records (Threading t) = thread.threading t
 records (Grooving g) = groove.grooving g

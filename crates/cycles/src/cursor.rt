@@ -10,6 +10,7 @@ ghost use Rattle.cycles.specs.Cursor.{restOf, over, Sound, Makes};
 
 pub enum Cursor {
     Turning(turning::cursor::Cursor),
+    Threading(threading::cursor::Cursor),
     Grooving(grooving::cursor::Cursor),
 }
 
@@ -25,6 +26,7 @@ pub fn open(c: Cycle) -> Cursor
 {
     match c {
         Cycle::Turning(t) => Cursor::Turning(turning::cursor::open(t)),
+        Cycle::Threading(t) => Cursor::Threading(threading::cursor::open(t)),
         Cycle::Grooving(g) => Cursor::Grooving(grooving::cursor::open(g)),
     }
 }
@@ -35,6 +37,7 @@ pub fn is_over(c: Cursor) -> bool
 {
     match c {
         Cursor::Turning(t) => turning::cursor::is_over(t),
+        Cursor::Threading(t) => threading::cursor::is_over(t),
         Cursor::Grooving(g) => grooving::cursor::is_over(g),
     }
 }
@@ -52,6 +55,15 @@ pub fn next(c: Cursor) -> Handed
             Handed {
                 record,
                 rest: Cursor::Turning(behind),
+            }
+        }
+        Cursor::Threading(t) => {
+            let handed = threading::cursor::next(t);
+            let record = handed.record;
+            let behind = handed.rest;
+            Handed {
+                record,
+                rest: Cursor::Threading(behind),
             }
         }
         Cursor::Grooving(g) => {

@@ -5,6 +5,7 @@ pub mod cursor;
 use crate::cursor::Cursor;
 use grooving::groove::Groove;
 use settings::limits::Limits;
+use threading::thread::Thread;
 use turning::cycle::Turning;
 ghost use mathlib.Core.Path.{_≡_};
 ghost use mathlib.Core.Bool.{false};
@@ -17,7 +18,7 @@ ghost use Rattle.cycles.specs.Cycle.{wrong, leastFeed, records};
 ghost use Rattle.cycles.specs.Known.{Known};
 ghost use Rattle.cycles.specs.Cursor.{restOf, Sound};
 
-// "A move by G01, G84 or G86 needs 1 to 9999, by G33 10 to 9999."
+// "A move by G01, G84 or G86 needs 1 to 9999, by G33 10 to 9999." A thread by G85 needs what G33 does.
 pub const LEAST_FEED: u32 = 1;
 
 pub const LEAST_PITCH: u32 = 10;
@@ -26,6 +27,7 @@ pub const GREATEST_FEED: u32 = 9_999;
 
 pub enum Cycle {
     Turning(Turning),
+    Threading(Thread),
     Grooving(Groove),
 }
 
@@ -35,6 +37,7 @@ pub fn is_wrong(c: Cycle) -> bool
 {
     match c {
         Cycle::Turning(t) => turning::cycle::is_wrong(t),
+        Cycle::Threading(t) => threading::thread::is_wrong(t),
         Cycle::Grooving(g) => grooving::groove::is_wrong(g),
     }
 }
@@ -45,6 +48,7 @@ pub fn least_feed(c: Cycle) -> u32
 {
     match c {
         Cycle::Turning(_) => LEAST_FEED,
+        Cycle::Threading(_) => LEAST_PITCH,
         Cycle::Grooving(_) => LEAST_FEED,
     }
 }
@@ -56,6 +60,7 @@ pub fn ends_outside(c: Cycle, l: Limits) -> bool
 {
     match c {
         Cycle::Turning(t) => turning::cycle::ends_outside(t, l),
+        Cycle::Threading(t) => threading::thread::ends_outside(t, l),
         Cycle::Grooving(g) => grooving::groove::ends_outside(g, l),
     }
 }
@@ -67,6 +72,7 @@ pub fn record_count(c: Cycle) -> u64
 {
     match c {
         Cycle::Turning(t) => turning::cycle::record_count(t),
+        Cycle::Threading(t) => threading::thread::record_count(t),
         Cycle::Grooving(g) => grooving::groove::record_count(g),
     }
 }

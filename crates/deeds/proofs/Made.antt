@@ -2,7 +2,7 @@
 -- Assumes nothing.
 use mathlib.Core.Path.{_≡_, refl}
 use mathlib.Core.Bool.{Bool, true, false, cond}
-use Prim.Native.Nat.{ℕ, _<_, _^_}
+use Prim.Native.Nat.{ℕ, _≤_, _<_, _^_}
 use native.Mathlib.Omega.{arith}
 use lib.IntN.{natAbs, _-ℤ_}
 use mir.Syntax.{w32}
@@ -12,19 +12,23 @@ use Rattle.moves.specs.Kinds.{rapid, feed, thread}
 use Rattle.moves.specs.declared.record.Record.{Record}
 use Rattle.codes.specs.declared.meaning.Motion.the-variants as motion
 use Rattle.block.specs.declared.words.Block.{Block}
+use Rattle.block.specs.Slots.{has, dSlot}
 use Rattle.acts.specs.declared.acting.Kept.{Kept}
 use Rattle.acts.specs.declared.acting.Kept.the-variants as kept
 use Rattle.axes.specs.Goes.{rapidTo}
+use Rattle.axes.specs.declared.axis.Axis.{Axis}
+use Rattle.depths.specs.Depths.{greatestD}
+use Rattle.threading.proofs.Counts.{bottom-fits}
 use Rattle.turning.specs.declared.cycle.Turning as turns
 use Rattle.grooving.specs.declared.groove.Groove.{Groove}
 use Rattle.cycles.specs.Cycle as cycle
 use Rattle.cycles.specs.Known.{home}
 use Rattle.cycles.specs.declared.Cycle as cycles
-use Rattle.cycles.specs.declared.Cycle.the-variants.{Turning, Grooving}
+use Rattle.cycles.specs.declared.Cycle.the-variants.{Turning, Threading, Grooving}
 use Rattle.deeds.specs.declared.deed.Deed.{Deed}
 use Rattle.deeds.specs.declared.deed.Deed.the-variants.{Nothing, Nowhere, Dwell, Straight, Cycle}
 use Rattle.deeds.specs.declared.deed.Sending.{Sending}
-use Rattle.deeds.specs.Deed.{hasPath, isFacing, dWord, turningOf, grooveOf, straightIf, moveOf, deedOf}
+use Rattle.deeds.specs.Deed.{hasPath, isFacing, dWord, turningOf, xBare, zBare, emptyCuts, threadOf, grooveOf, straightIf, moveOf, deedOf}
 use Rattle.deeds.specs.Known.{Small}
 use Rattle.deeds.specs.Known.{Known}
 
@@ -37,6 +41,9 @@ pub record Sends (s : Sending) : Type 0 where
   pub f : s .f < 2 ^ 32
   pub near-x : natAbs (s .«x_target» -ℤ s .x) < 100_000_000
   pub near-z : natAbs (s .«z_target» -ℤ s .z) < 100_000_000
+  pub reach-x : natAbs (s .«x_target») < 1_000_000_000
+  pub reach-z : natAbs (s .«z_target») < 1_000_000_000
+  pub empty : s .«empty_cuts» ≤ greatestD
 
 -- a record at the place where the axes stand
 abbrev pub At : Record → Sending → Type 0
@@ -65,6 +72,15 @@ module _ (b : Block) (s : Sending) where
   unfolding turningOf rapidTo
   turning-starts = either-of (λ (c : turns.Turning). Starts (Cycle (Turning c)) s) (isFacing b) _ _ (refl, refl) (refl, refl)
 
+  bare-starts : (t : Bool) → At (rapidTo t (cond t (zBare s) (xBare s) .start) (cond t (xBare s) (zBare s) .start)) s
+  unfolding rapidTo
+  bare-starts true = (refl, refl)
+  bare-starts false = (refl, refl)
+
+  thread-starts : Starts (Cycle (Threading (threadOf b s))) s
+  unfolding threadOf
+  thread-starts = bare-starts (isFacing b)
+
   groove-starts : Starts (Cycle (Grooving (grooveOf b s))) s
   unfolding grooveOf rapidTo
   groove-starts = either-of (λ (g : Groove). Starts (Cycle (Grooving g)) s) (isFacing b) _ _ (refl, refl) (refl, refl)
@@ -80,6 +96,7 @@ module _ (b : Block) (s : Sending) where
   starts (kept.Of motion.Thread) = straight-starts false 10 (thread (s .«x_target») (s .«z_target») (s .f))
   starts (kept.Of motion.Dwell) = (refl, refl)
   starts (kept.Of motion.Turning) = turning-starts
+  starts (kept.Of motion.Threading) = thread-starts
   starts (kept.Of motion.Grooving) = groove-starts
   starts kept.Nothing = either-of (λ (d : Deed). Starts d s) (hasPath b) Nowhere Nothing tt tt
 
@@ -89,6 +106,24 @@ module _ (b : Block) (s : Sending) (h : Sends s) where
   unfolding turningOf
   turning-known =
       either-of (λ (c : turns.Turning). Known (Cycle (Turning c))) (isFacing b) _ _ ((h .z, h .z-target), (h .x, h .x-target), h .f) ((h .x, h .x-target), (h .z, h .z-target), h .f)
+
+  -- an axis without allowance, as a thread has it
+  abbrev Fits : Axis → Type 0
+  Fits a = SFits w32 (a .start) × SFits w32 (a .target)
+
+  thread-known : Small b → Known (Cycle (Threading (threadOf b s)))
+  unfolding threadOf emptyCuts
+  thread-known w = (
+    either-of Fits (isFacing b) (zBare s) (xBare s) (h .z, h .z-target) (h .x, h .x-target),
+    either-of Fits (isFacing b) (xBare s) (zBare s) (h .x, h .x-target) (h .z, h .z-target),
+    h .f,
+    record {
+      d3 = omega (arith, w .each 3 (omega arith));
+      d6 = omega (arith, w .each 6 (omega arith));
+      empty = either-of (λ (n : ℕ). n ≤ greatestD) (has b (dSlot 4)) (dWord b 4) (s .«empty_cuts») (omega (arith, w .each 4 (omega arith))) (h .empty);
+      bottom = bottom-fits (threadOf b s) (omega (arith, w .each 6 (omega arith))) (either-of (λ (a : Axis). natAbs (a .target) < 1_000_000_000) (isFacing b) (zBare s) (xBare s) (h .reach-z) (h .reach-x));
+    },
+  )
 
   groove-known : dWord b 4 < 2 ^ 32 → Known (Cycle (Grooving (grooveOf b s)))
   unfolding grooveOf
@@ -108,5 +143,6 @@ module _ (b : Block) (s : Sending) (h : Sends s) where
   known w (kept.Of motion.Thread) = straight-known false 10 (thread (s .«x_target») (s .«z_target») (s .f)) (record { kind = omega arith; flags = omega arith; x = h .x-target; z = h .z-target; value = h .f })
   known w (kept.Of motion.Dwell) = record { kind = omega arith; flags = omega arith; x = h .x; z = h .z; value = omega (arith, w .each 4 (omega arith)) }
   known w (kept.Of motion.Turning) = turning-known
+  known w (kept.Of motion.Threading) = thread-known w
   known w (kept.Of motion.Grooving) = groove-known (omega (arith, w .each 4 (omega arith)))
   known w kept.Nothing = either-of Known (hasPath b) Nowhere Nothing tt tt

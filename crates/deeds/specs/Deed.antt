@@ -3,6 +3,7 @@
 -- from Z less D2, end line from X and D0, d = D3. .. Missing D0 and D2 are 0." 02, in the place of "D0 is counted on the diameter": "D0 is per side, as U and D3 are. In document 01 the X
 -- allowance is 2 x D0, longitudinal and facing." G86: "alongside (X before Z)", "divides its X depth with 2 x D3", "a rapid back by twice the retract", "Facing: exchange axes, .. tool width
 -- 2 x D5, overlap 200, depth piece D3, single retract."
+-- 02, G85: "(word order as G84) .. D6 is the depth per side, F the pitch. D7 counts as bits .. missing is 0. .. Empty cuts repeat the last pass D4 times, else as a new setting says".
 use mathlib.Core.Bool.{Bool, true, false, cond, _||_}
 use Prim.Native.Nat.{ℕ, _+_, _*_}
 use lib.Dec.{ltb}
@@ -19,6 +20,8 @@ use Rattle.acts.specs.declared.acting.Kept.the-variants as kept
 use Rattle.moves.specs.Kinds.{rapid, feed, thread, dwell}
 use Rattle.moves.specs.declared.record.Record.{Record}
 use Rattle.turning.specs.declared.cycle.Turning.{Turning}
+use Rattle.threading.specs.Bits.{isNominal, ruleOf}
+use Rattle.threading.specs.declared.thread.Thread.{Thread}
 use Rattle.cycles.specs.Feeds.{leastOfFeed, leastOfPitch}
 use Rattle.cycles.specs.declared.Cycle.the-variants as cycle
 use Rattle.deeds.specs.declared.deed.Deed.{Deed}
@@ -58,6 +61,30 @@ turningBy s facing x z d3 =
 unfoldable pub turningOf : Block → Sending → Turning
 turningOf b s = turningBy s (isFacing b) (xAxis b s) (zAxis b s) (dWord b 3)
 
+-- the axes of a thread, which leaves no allowance
+abbrev pub xBare : Sending → Axis
+xBare s = record { start = s .x; target = s .«x_target»; allowance = 0 }
+
+abbrev pub zBare : Sending → Axis
+zBare s = record { start = s .z; target = s .«z_target»; allowance = 0 }
+
+-- the empty cuts: D4, and where there is none, the setting
+unfoldable pub emptyCuts : Block → ℕ → ℕ
+emptyCuts b setting = cond (has b (dSlot 4)) (dWord b 4) setting
+
+unfoldable pub threadOf : Block → Sending → Thread
+threadOf b s = record {
+  facing = isFacing b;
+  infeed = cond (isFacing b) (zBare s) (xBare s);
+  path = cond (isFacing b) (xBare s) (zBare s);
+  rule = ruleOf (dWord b 7);
+  nominal = isNominal (dWord b 7);
+  d3 = dWord b 3;
+  d6 = dWord b 6;
+  empty = emptyCuts b (s .«empty_cuts»);
+  pitch = s .f;
+}
+
 -- the ways of a groove
 abbrev pub xWay : Sending → Way
 xWay s = record { start = s .x; target = s .«x_target» }
@@ -86,6 +113,7 @@ moveOf motion.Feed b s = straightIf (hasPath b) false leastOfFeed (feed (s .«x_
 moveOf motion.Thread b s = straightIf (hasPath b) false leastOfPitch (thread (s .«x_target») (s .«z_target») (s .f))
 moveOf motion.Dwell b s = deed.Dwell (dwell (s .x) (s .z) (dWord b 4))
 moveOf motion.Turning b s = deed.Cycle (cycle.Turning (turningOf b s))
+moveOf motion.Threading b s = deed.Cycle (cycle.Threading (threadOf b s))
 moveOf motion.Grooving b s = deed.Cycle (cycle.Grooving (grooveOf b s))
 
 -- the deed of a block, of its own motion (`blockMotion`) and not of the one it leaves kept

@@ -1,5 +1,5 @@
--- DEMAND 3'S OWN WORDS: the cycle that a G84 block asks for, from the words that apply in it, the offset in force, and the state after its own G, T and F words and before its move: the axes
--- stand there where they stood before the block. Nothing here is cited by what says how a G84 is done, nor cites it (`turningOf`, `targetX`). That it is done so is proved: proofs/Wanted.antt.
+-- DEMAND 3'S OWN WORDS, and those of the promise of threads: the cycle that a G84 block asks for, and the thread that a G85 block asks for, from the words that apply in it, the offset in force, and the state after its own G, T and F words and before its move: the axes
+-- stand there where they stood before the block. Nothing here is cited by what says how a G84 or a G85 is done, nor cites it (`turningOf`, `threadOf`, `targetX`). That it is done so is proved: proofs/Wanted.antt.
 use mathlib.Core.Bool.{Bool, true, false, cond}
 use Prim.Native.Nat.{ℕ, _+_, _*_}
 use lib.Dec.{ltb}
@@ -11,6 +11,8 @@ use Rattle.state.specs.declared.modal.State.{State}
 use Rattle.state.specs.declared.target.Pair.{Pair}
 use Rattle.axes.specs.declared.axis.Axis.{Axis}
 use Rattle.turning.specs.declared.cycle.Turning.{Turning}
+use Rattle.threading.specs.Bits.{isNominal, ruleOf}
+use Rattle.threading.specs.declared.thread.Thread.{Thread}
 
 -- the number of a word, and its place among the words of its block; both are 0 where a block that was read has no such word
 abbrev pub wordNumber : Block → ℕ → ℤ
@@ -55,3 +57,24 @@ wanted b s offset =
     cond (zBeforeX b)
     (record { facing = true; infeed = zAxisWanted b s offset; path = xAxisWanted b s offset; division = dNumber b 3; f = s .f; g95 = s .g95 })
     (record { facing = false; infeed = xAxisWanted b s offset; path = zAxisWanted b s offset; division = 2 * dNumber b 3; f = s .f; g95 = s .g95 })
+
+-- ---- 02, G85: "longitudinal and facing G85 (word order as G84) .. D6 is the depth per side, F the pitch. D7 counts as bits .. missing is 0"; no allowance is left
+abbrev pub xBareWanted : Block → State → Pair → Axis
+xBareWanted b s offset = record { start = s .x; target = xTargetWanted b s offset; allowance = 0 }
+
+abbrev pub zBareWanted : Block → State → Pair → Axis
+zBareWanted b s offset = record { start = s .z; target = zTargetWanted b s offset; allowance = 0 }
+
+-- "Empty cuts repeat the last pass D4 times, else as a new setting says"
+unfoldable pub threadWanted : Block → State → Pair → ℕ → Thread
+threadWanted b s offset setting = record {
+  facing = zBeforeX b;
+  infeed = cond (zBeforeX b) (zBareWanted b s offset) (xBareWanted b s offset);
+  path = cond (zBeforeX b) (xBareWanted b s offset) (zBareWanted b s offset);
+  rule = ruleOf (dNumber b 7);
+  nominal = isNominal (dNumber b 7);
+  d3 = dNumber b 3;
+  d6 = dNumber b 6;
+  empty = cond (has b (dSlot 4)) (dNumber b 4) setting;
+  pitch = s .f;
+}

@@ -1,5 +1,6 @@
 // The deed of a block, and the cycles as their words give them: a cycle's D words and retract that count on a diameter are scaled here, and nowhere else.
-// (01, "G84": "d = 2 x D3 (D3 is per side)"; 02: "the X allowance is 2 x D0"; "G86": "2 x D3", "twice the retract", facing "tool width 2 x D5, overlap 200, depth piece D3, single retract".)
+// (01, "G84": "d = 2 x D3 (D3 is per side)"; 02: "the X allowance is 2 x D0"; "G86": "2 x D3", "twice the retract", facing "tool width 2 x D5, overlap 200, depth piece D3, single retract".
+// A thread's depths are per side, and its cycle doubles them.)
 use acts::acting::Kept;
 use axes::axis::Axis;
 use block::words::Block;
@@ -8,11 +9,12 @@ use cycles::Cycle;
 use grooving::groove::Groove;
 use grooving::groove::Way;
 use moves::record::Record;
+use threading::thread::Thread;
 use turning::cycle::Turning;
 ghost use mathlib.Core.Path.{_≡_};
 ghost use Prim.Native.Nat.{_+_, _<_};
 ghost use Rattle.block.specs.Slots.{dSlot, codeIn};
-ghost use Rattle.deeds.specs.Deed.{hasPath, isFacing, turningOf, grooveOf, straightIf, moveOf, deedOf};
+ghost use Rattle.deeds.specs.Deed.{hasPath, isFacing, turningOf, emptyCuts, threadOf, grooveOf, straightIf, moveOf, deedOf};
 ghost use Rattle.deeds.specs.Known.{Small};
 
 pub enum Deed {
@@ -32,7 +34,7 @@ pub struct Straight {
     pub goes: Record,
 }
 
-// Where the axes stand and where the block sends them, the feed in force, and the retract of the settings.
+// Where the axes stand and where the block sends them, the feed in force, and the retract and the empty cuts of the settings.
 pub struct Sending {
     pub x: i32,
     pub z: i32,
@@ -41,6 +43,7 @@ pub struct Sending {
     pub f: u32,
     pub g95: bool,
     pub retract: u32,
+    pub empty_cuts: u32,
 }
 
 // The least overlap of two plunges, in micrometres.
@@ -113,6 +116,64 @@ fn turning_of(b: Block, s: Sending) -> Turning
         division: 2 * d3,
         f: s.f,
         g95: s.g95,
+    }
+}
+
+// "Empty cuts repeat the last pass D4 times, else as a new setting says": a D4 of 0 is no empty cut.
+fn empty_cuts(b: Block, setting: u32) -> u32
+    requires { ⌜ Small b ⌝ }
+    ensures { λ r. ⌜ r ≡ emptyCuts b setting ⌝ }
+{
+    if block::words::has(b, block::words::d_slot(4)) {
+        return d_word(b, 4);
+    }
+    setting
+}
+
+// A G85 block as a thread.
+fn thread_of(b: Block, s: Sending) -> Thread
+    requires { ⌜ Small b ⌝ }
+    ensures { λ r. ⌜ r ≡ threadOf b s ⌝ }
+{
+    let x = Axis {
+        start: s.x,
+        target: s.x_target,
+        allowance: 0,
+    };
+    let z = Axis {
+        start: s.z,
+        target: s.z_target,
+        allowance: 0,
+    };
+    let d3 = d_word(b, 3);
+    let d6 = d_word(b, 6);
+    let d7 = d_word(b, 7);
+    let empty = empty_cuts(b, s.empty_cuts);
+    let rule = threading::thread::rule_of(d7);
+    let nominal = threading::thread::is_nominal(d7);
+    if is_facing(b) {
+        return Thread {
+            facing: true,
+            infeed: z,
+            path: x,
+            rule,
+            nominal,
+            d3,
+            d6,
+            empty,
+            pitch: s.f,
+        };
+    }
+    Thread {
+        facing: false,
+        infeed: x,
+        path: z,
+        rule,
+        nominal,
+        d3,
+        d6,
+        empty,
+        pitch: s.f,
     }
 }
 
@@ -193,6 +254,7 @@ fn move_of(m: Motion, b: Block, s: Sending) -> Deed
         ),
         Motion::Dwell => Deed::Dwell(Record::dwell(s.x, s.z, d_word(b, 4))),
         Motion::Turning => Deed::Cycle(Cycle::Turning(turning_of(b, s))),
+        Motion::Threading => Deed::Cycle(Cycle::Threading(thread_of(b, s))),
         Motion::Grooving => Deed::Cycle(Cycle::Grooving(groove_of(b, s))),
     }
 }

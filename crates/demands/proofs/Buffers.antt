@@ -1,4 +1,4 @@
--- Demand 3 off the bytes of the buffer: the records of each step are read where they were written.
+-- A promise of every block, off the bytes of the buffer: the records of each step are read where they were written.
 -- Assumes nothing.
 use mathlib.Core.Path.{_≡_, refl, sym, ap, _∙_, subst}
 use mathlib.Core.Bool.{Bool, true, false, cond}
@@ -13,12 +13,10 @@ use Rattle.moves.specs.Form.{headerSize, recordStart, headerBytes, rowBytes, Al
 use Rattle.moves.specs.Reading.{recordsIn}
 use Rattle.moves.specs.declared.record.Record.{Record}
 use Rattle.moves.proofs.OneReading.{length-row, length-header, row-append, read-after}
-use Rattle.turning.specs.Turned.{Turned}
 use Rattle.settings.specs.Known.{Table}
 use Rattle.state.specs.Known.{Sound}
 use Rattle.state.proofs.Ranges.{start-sound}
 use Rattle.settings.specs.Known.{InRange}
-use Rattle.demands.specs.Opens.{wantedIn}
 use Rattle.settings.specs.declared.control.Settings.{Settings}
 use Rattle.machine.proofs.Running.{sound-after}
 use Rattle.ahead.specs.Ahead.{mostCalls, onto}
@@ -30,9 +28,13 @@ use Rattle.answers.specs.Answers.{answerBy, startOf, headed}
 use Rattle.runners.specs.Runs.{recordsOf, programRun}
 use Rattle.answers.specs.declared.Answer.{Answer}
 use Rattle.answers.specs.declared.Answer.the-variants.{Complete, Alarm}
-use Rattle.demands.specs.Demands.{Each, EveryCycle, EachFrom, CutIn, task, Front, DemandThreeInBuffer}
+use Rattle.demands.specs.Demands.{Each, EachFrom, StandsIn, task, Front}
 use Rattle.demands.specs.Steps.{Done, Linked}
-use Rattle.demands.proofs.Cycles.{every-cycle}
+use Rattle.demands.proofs.Cycles.{every-step}
+use Rattle.block.specs.declared.words.Block.{Block}
+use Rattle.state.specs.declared.modal.State.{State}
+use Rattle.verdicts.specs.Verdicts.{alarmIn}
+use Rattle.machine.specs.Blocks.{doneRecords}
 use Rattle.demands.proofs.Fits.{fitting-append, block-fitting, feed-after}
 use Rattle.moves.specs.Last.{lastOf}
 use Rattle.cycles.proofs.Homes.{last-append}
@@ -75,14 +77,18 @@ stood second t r st v d x h =
     ∙ (λ i. lastOf f (h i) (sym (d .wrote) i))
     ∙ sym (last-append f v (st .records) x)
 
--- ---- read where they were written: h is what stands before the records, v the records before the steps
-read-from : (t : Task) (h tail : List ℕ) (e : List ℕ) (v : List Record) (sts : List Step) (r s : Run) → length h ≡ headerSize
-    → e ≡ h ++ (rowBytes (v ++ recordsOf sts) ++ tail) → AllFitting v → AllFit sts → EveryCycle t sts → Linked t r sts s
+-- ---- read where they were written: h is what stands before the records, v the records before the steps; P is the promise of a block
+-- the step stands where the records before it have left the axes, and its records keep the promise
+abbrev pub ReadIn : (Task → State → Block → List Record → Type 0) → Task → List ℕ → Step → ℕ → Type 0
+ReadIn P t e st k = StandsIn t e st k × P t (st .before .state) (blockOn (t .tape) (st .place)) (recordsIn e k (length (st .records)))
+
+read-from : (P : Task → State → Block → List Record → Type 0) (t : Task) (h tail : List ℕ) (e : List ℕ) (v : List Record) (sts : List Step) (r s : Run) → length h ≡ headerSize
+    → e ≡ h ++ (rowBytes (v ++ recordsOf sts) ++ tail) → AllFitting v → AllFit sts → Each (λ st. P t (st .before .state) (blockOn (t .tape) (st .place)) (st .records)) sts → Linked t r sts s
     → r .state .x ≡ lastOf (λ q. q .x) (t .settings .x) v → r .state .z ≡ lastOf (λ q. q .z) (t .settings .z) v
-    → EachFrom (CutIn t e) (length v) sts
+    → EachFrom (ReadIn P t e) (length v) sts
 unfolding EachFrom Each recordsOf Linked runAfter
-read-from t h tail e v [] r s lh is g f c l x z = tt
-read-from t h tail e v (st ∷ sts) r s lh is g f c l x z =
+read-from P t h tail e v [] r s lh is g f c l x z = tt
+read-from P t h tail e v (st ∷ sts) r s lh is g f c l x z =
     let w = st .records in
     let rest = recordsOf sts in
     let b = blockOn (t .tape) (st .place) in
@@ -97,13 +103,15 @@ read-from t h tail e v (st ∷ sts) r s lh is g f c l x z =
     let onward : e ≡ h ++ (rowBytes ((v ++ w) ++ rest) ++ tail) = is ∙ ap (λ (y : List Record). h ++ (rowBytes y ++ tail)) (sym (append-assoc v w rest)) in
     let x-after = stood false t r st v (l .0) (t .settings .x) x in
     let z-after = stood true t r st v (l .0) (t .settings .z) z in
-    let more = read-from t h tail e (v ++ w) sts (runAfter t (st .place) r) s lh onward (fitting-append v w g (f .0)) (f .1) (c .1) (l .1) x-after z-after in (
-      λ o. record {
-        x = ap (λ (q : Run). q .state .x) (l .0 .begun) ∙ x ∙ ap (lastOf (λ q. q .x) (t .settings .x)) before;
-        z = ap (λ (q : Run). q .state .z) (l .0 .begun) ∙ z ∙ ap (lastOf (λ q. q .z) (t .settings .z)) before;
-        turned = subst (Turned (wantedIn (t .table) (st .before .state) b)) there (c .0 o);
-      },
-      subst (λ (n : ℕ). EachFrom (CutIn t e) n sts) (length-append v w) more,
+    let more = read-from P t h tail e (v ++ w) sts (runAfter t (st .place) r) s lh onward (fitting-append v w g (f .0)) (f .1) (c .1) (l .1) x-after z-after in (
+      (
+        record {
+          x = ap (λ (q : Run). q .state .x) (l .0 .begun) ∙ x ∙ ap (lastOf (λ q. q .x) (t .settings .x)) before;
+          z = ap (λ (q : Run). q .state .z) (l .0 .begun) ∙ z ∙ ap (lastOf (λ q. q .z) (t .settings .z)) before;
+        },
+        subst (P t (st .before .state) b) there (c .0),
+      ),
+      subst (λ (n : ℕ). EachFrom (ReadIn P t e) n sts) (length-append v w) more,
     )
 
 -- ---- the buffer: a header or what was there, the records, and the rest as it came
@@ -155,32 +163,30 @@ module _ (b : List ℕ) (rs : List Record) (h : headerSize ≤ length b) where
   }
 
 -- ---- of every input
-record Shown (t : Task) (b : List ℕ) (x : Result) : Type 0 where
-  cycles : EachFrom (CutIn t (laidBy x b)) 0 (x .steps)
+module _ (P : Task → State → Block → List Record → Type 0)
+    (kept : (t : Task) (s : State) (b : Block) (left : ℕ) → alarmIn (t .table) (t .settings) s b left ≡ 0 → P t s b (doneRecords (t .table) (t .settings) s b)) where
+  pub record Shown (t : Task) (b : List ℕ) (x : Result) : Type 0 where
+    pub steps : EachFrom (ReadIn P t (laidBy x b)) 0 (x .steps)
 
-none-shown : (t : Task) (b : List ℕ) (alarm place : ℕ) → Shown t b (refused alarm place)
-unfolding EachFrom
-none-shown t b alarm place = record { cycles = tt }
+  none-shown : (t : Task) (b : List ℕ) (alarm place : ℕ) → Shown t b (refused alarm place)
+  unfolding EachFrom
+  none-shown t b alarm place = record { steps = tt }
 
-run-shown : (b : List ℕ) → headerSize ≤ length b → (t : Task) → Table (t .table) → InRange (t .settings) → Sound (startOf (t .settings) .state) → (p : ℕ) → p < length (t .tape)
-    → Shown t b (resultOf (programRun t p mostCalls (startOf (t .settings))))
-unfolding resultOf laidBy
-run-shown b header t known range sound p on =
-    let r = startOf (t .settings) in
-    let x = programRun t p mostCalls r in
-    let l = program-leads t p mostCalls r on .linked in
-    let a = answerBy (x .outcome .ending) (x .outcome .run .count) in
-    let e = laid b (recordStart 0) (rowBytes (recordsOf (x .steps))) in
-    let f = form b (recordsOf (x .steps)) header a in record {
-      cycles = read-from t (f .before) (f .behind) (headed a e) [] (x .steps) r (x .outcome .run) (f .size) (f .is) tt
-          (chain-fits t known range (x .steps) r (x .outcome .run) sound (omega arith) l) (every-cycle t (x .steps) r (x .outcome .run) l) l refl refl;
-    }
+  run-shown : (b : List ℕ) → headerSize ≤ length b → (t : Task) → Table (t .table) → InRange (t .settings) → Sound (startOf (t .settings) .state) → (p : ℕ) → p < length (t .tape)
+      → Shown t b (resultOf (programRun t p mostCalls (startOf (t .settings))))
+  unfolding resultOf laidBy
+  run-shown b header t known range sound p on =
+      let r = startOf (t .settings) in
+      let x = programRun t p mostCalls r in
+      let l = program-leads t p mostCalls r on .linked in
+      let a = answerBy (x .outcome .ending) (x .outcome .run .count) in
+      let e = laid b (recordStart 0) (rowBytes (recordsOf (x .steps))) in
+      let f = form b (recordsOf (x .steps)) header a in record {
+        steps = read-from P t (f .before) (f .behind) (headed a e) [] (x .steps) r (x .outcome .run) (f .size) (f .is) tt
+            (chain-fits t known range (x .steps) r (x .outcome .run) sound (omega arith) l) (every-step P kept t (x .steps) r (x .outcome .run) l) l refl refl;
+      }
 
-module _ (tape : List ℕ) (table : List ℤ) (set : Settings) (b : List ℕ) where
-  shown : Shown (task tape table set (length b)) b (interpretation tape table set (length b))
-  shown =
+  pub every-read : (tape : List ℕ) (table : List ℤ) (set : Settings) (b : List ℕ) → Shown (task tape table set (length b)) b (interpretation tape table set (length b))
+  every-read tape table set b =
       every-result (λ t. Shown t b) tape table set (length b) (λ t alarm place _ _ _. none-shown t b alarm place)
       (λ h _ k first end p on. run-shown b h (taskOf (take end tape) table set first (length b)) (k .offsets) (k .range) (start-sound (set .x) (set .z) (k .starts .x) (k .starts .z)) p on)
-
-  pub demand-three-in-buffer : DemandThreeInBuffer tape table set b
-  demand-three-in-buffer = shown .cycles

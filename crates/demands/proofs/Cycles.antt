@@ -1,36 +1,39 @@
--- Demand 3 along the chain of a run's steps: each G84 that was done keeps its promise, in calls and repeats too; and the count of records goes with the steps.
+-- A promise of every block that is done holds of every step of a run, in calls and repeats too; and the count of records goes with the steps.
 -- Assumes nothing.
 use mathlib.Core.Path.{_≡_, sym, ap, subst}
 use mathlib.Core.List.{List, [], _∷_}
-use Prim.Native.Nat.{_+_, _-_}
+use Prim.Native.Nat.{ℕ, _+_, _-_}
 use native.Mathlib.Omega.{arith}
 use lib.ListN.{length, length-append}
 use Rattle.moves.specs.declared.record.Record.{Record}
-use Rattle.turning.specs.Turned.{Turned}
+use Rattle.block.specs.declared.words.Block.{Block}
+use Rattle.state.specs.declared.modal.State.{State}
+use Rattle.verdicts.specs.Verdicts.{alarmIn}
 use Rattle.machine.specs.Blocks.{doneRecords}
-use Rattle.demands.specs.Opens.{wantedIn}
-use Rattle.demands.proofs.Opening.{block-turned}
 use Rattle.ahead.specs.Ahead.{onto}
 use Rattle.steps.specs.Steps.{Task, Step, blockOn, runAfter}
 use Rattle.steps.specs.declared.step.Run.{Run}
 use Rattle.runners.specs.Runs.{recordsOf}
 use Rattle.demands.specs.Steps.{Done, Linked}
-use Rattle.demands.specs.Demands.{Each, Cut, EveryCycle}
+use Rattle.demands.specs.Demands.{Each}
 use Rattle.demands.proofs.Linked.{free-own}
 
--- one step that was done
-cut : (t : Task) (r : Run) (st : Step) → Done t r st → Cut t st
-cut t r st d opens =
-    let b = blockOn (t .tape) (st .place) in
-    let well = free-own t (onto (d .frame) (st .place)) r (d .free) in
-    let turned = block-turned (t .table) (t .settings) (r .state) b opens (t .room - r .count) well in
-    subst (λ (v : List Record). Turned (wantedIn (t .table) (st .before .state) b) v) (sym (d .wrote))
-    (subst (λ (q : Run). Turned (wantedIn (t .table) (q .state) b) (doneRecords (t .table) (t .settings) (r .state) b)) (sym (d .begun)) turned)
+-- P is said of what a run is given, of the state before a block, of the block and of its records
+module _ (P : Task → State → Block → List Record → Type 0)
+    (kept : (t : Task) (s : State) (b : Block) (left : ℕ) → alarmIn (t .table) (t .settings) s b left ≡ 0 → P t s b (doneRecords (t .table) (t .settings) s b)) where
+  -- one step that was done
+  of-step : (t : Task) (r : Run) (st : Step) → Done t r st → P t (st .before .state) (blockOn (t .tape) (st .place)) (st .records)
+  of-step t r st d =
+      let b = blockOn (t .tape) (st .place) in
+      let well = free-own t (onto (d .frame) (st .place)) r (d .free) in
+      let holds = kept t (r .state) b (t .room - r .count) well in
+      subst (λ (v : List Record). P t (st .before .state) b v) (sym (d .wrote))
+      (subst (λ (q : Run). P t (q .state) b (doneRecords (t .table) (t .settings) (r .state) b)) (sym (d .begun)) holds)
 
-pub every-cycle : (t : Task) (sts : List Step) (r s : Run) → Linked t r sts s → EveryCycle t sts
-unfolding Linked Each
-every-cycle t [] r s l = tt
-every-cycle t (st ∷ sts) r s l = (cut t r st (l .0), every-cycle t sts (runAfter t (st .place) r) s (l .1))
+  pub every-step : (t : Task) (sts : List Step) (r s : Run) → Linked t r sts s → Each (λ st. P t (st .before .state) (blockOn (t .tape) (st .place)) (st .records)) sts
+  unfolding Linked Each
+  every-step t [] r s l = tt
+  every-step t (st ∷ sts) r s l = (of-step t r st (l .0), every-step t sts (runAfter t (st .place) r) s (l .1))
 
 -- the records written by the end are those before and those of the steps
 pub counted : (t : Task) (sts : List Step) (r s : Run) → Linked t r sts s → s .count ≡ r .count + length (recordsOf sts)

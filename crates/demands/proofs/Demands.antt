@@ -1,55 +1,94 @@
--- The demands hold of every input.
+-- Demand 3 and the promise of threads hold of every input.
 -- Assumes nothing.
-use mathlib.Core.Path.{_≡_, refl, _∙_}
-use mathlib.Core.List.{List}
+use mathlib.Core.Path.{_≡_, refl}
+use mathlib.Core.Bool.{true}
+use mathlib.Core.List.{List, [], _∷_}
 use Prim.Native.Nat.{ℕ, _+_, _<_}
-use native.Mathlib.Omega.{arith}
 use lib.IntN.{ℤ}
 use lib.ListN.{length, take}
+use Rattle.moves.specs.declared.record.Record.{Record}
+use Rattle.block.specs.declared.words.Block.{Block}
 use Rattle.settings.specs.declared.control.Settings.{Settings}
+use Rattle.state.specs.declared.modal.State.{State}
+use Rattle.turning.specs.Turned.{Turned}
+use Rattle.threading.specs.Threaded.{Threaded}
+use Rattle.verdicts.specs.Verdicts.{alarmIn}
+use Rattle.machine.specs.Blocks.{doneRecords}
 use Rattle.ahead.specs.Ahead.{mostCalls}
-use Rattle.steps.specs.Steps.{Task, taskOf}
+use Rattle.steps.specs.Steps.{Task, taskOf, Step, blockOn}
 use Rattle.answers.specs.Answers.{countOf, answerBy, startOf}
 use Rattle.interpreter.specs.Answers.{Result, refused, resultOf, interpretation}
-use Rattle.runners.specs.Runs.{recordsOf, programRun}
+use Rattle.runners.specs.Runs.{programRun}
 use Rattle.runners.specs.declared.run.Ending.{Ending}
 use Rattle.runners.specs.declared.run.Ending.the-variants.{Returned, Ended, Stopped}
-use Rattle.demands.specs.Demands.{Each, EveryCycle, task, DemandThree}
-use Rattle.demands.proofs.Cycles.{every-cycle, counted}
+use Rattle.demands.specs.Opens.{opensTurning, wantedIn, opensThreading, threadIn}
+use Rattle.demands.specs.Demands.{Each, EachFrom, task, DemandThree, DemandThreeInBuffer, ThreadPromise, ThreadPromiseInBuffer}
+use Rattle.demands.proofs.Buffers.{every-read}
+use Rattle.demands.proofs.Cycles.{every-step}
 use Rattle.demands.proofs.Linked.{program-leads}
+use Rattle.demands.proofs.Opening.{block-turned}
+use Rattle.demands.proofs.Threads.{block-threaded}
 use Rattle.demands.proofs.Results.{every-result}
 
--- ---- what is shown of a result in a task
-record Shown (t : Task) (x : Result) : Type 0 where
-  cycles : EveryCycle t (x .steps)
-  count : countOf (x .answer) ≡ length (recordsOf (x .steps))
-
+-- how many records an answer counts
 pub count-by : (h : Ending) (n : ℕ) → countOf (answerBy h n) ≡ n
 unfolding answerBy
 count-by Ended n = refl
 count-by (Stopped alarm place) n = refl
 count-by Returned n = refl
 
-from-none : {a n : ℕ} → a ≡ 0 + n → a ≡ n
-from-none e = omega (arith, e)
+-- ---- a promise P of every block that is done holds of every step of every run
+module _ (P : Task → State → Block → List Record → Type 0)
+    (kept : (t : Task) (s : State) (b : Block) (left : ℕ) → alarmIn (t .table) (t .settings) s b left ≡ 0 → P t s b (doneRecords (t .table) (t .settings) s b)) where
+  record Shown (t : Task) (x : Result) : Type 0 where
+    steps : Each (λ st. P t (st .before .state) (blockOn (t .tape) (st .place)) (st .records)) (x .steps)
 
-none-shown : (t : Task) (alarm place : ℕ) → Shown t (refused alarm place)
-unfolding Each recordsOf
-none-shown t alarm place = record { cycles = tt; count = refl }
+  none-shown : (t : Task) (alarm place : ℕ) → Shown t (refused alarm place)
+  unfolding Each
+  none-shown t alarm place = record { steps = tt }
 
-run-shown : (t : Task) (p : ℕ) → p < length (t .tape) → Shown t (resultOf (programRun t p mostCalls (startOf (t .settings))))
-unfolding resultOf
-run-shown t p on =
-    let r = startOf (t .settings) in
-    let x = programRun t p mostCalls r in
-    let l = program-leads t p mostCalls r on .linked in record {
-      cycles = every-cycle t (x .steps) r (x .outcome .run) l;
-      count = count-by (x .outcome .ending) (x .outcome .run .count) ∙ from-none (counted t (x .steps) r (x .outcome .run) l);
-    }
+  run-shown : (t : Task) (p : ℕ) → p < length (t .tape) → Shown t (resultOf (programRun t p mostCalls (startOf (t .settings))))
+  unfolding resultOf
+  run-shown t p on =
+      let r = startOf (t .settings) in
+      let x = programRun t p mostCalls r in
+      record { steps = every-step P kept t (x .steps) r (x .outcome .run) (program-leads t p mostCalls r on .linked) }
 
-module _ (tape : List ℕ) (table : List ℤ) (set : Settings) (bytes : ℕ) where
-  shown : Shown (task tape table set bytes) (interpretation tape table set bytes)
-  shown = every-result Shown tape table set bytes (λ t alarm place _ _ _. none-shown t alarm place) (λ _ _ _ first end p on. run-shown (taskOf (take end tape) table set first bytes) p on)
+  every-run : (tape : List ℕ) (table : List ℤ) (set : Settings) (bytes : ℕ) → Shown (task tape table set bytes) (interpretation tape table set bytes)
+  every-run tape table set bytes =
+      every-result Shown tape table set bytes (λ t alarm place _ _ _. none-shown t alarm place) (λ _ _ _ first end p on. run-shown (taskOf (take end tape) table set first bytes) p on)
 
-  pub demand-three : DemandThree tape table set bytes
-  demand-three = shown .cycles
+-- what holds of each step holds of it otherwise said
+each-from : {A B : Step → ℕ → Type 0} → ((st : Step) (k : ℕ) → A st k → B st k) → (k : ℕ) (sts : List Step) → EachFrom A k sts → EachFrom B k sts
+unfolding EachFrom
+each-from f k [] a = tt
+each-from f k (st ∷ sts) a = (f st k (a .0), each-from f (k + length (st .records)) sts (a .1))
+
+-- ---- the promise of a block: demand 3, and that of a thread
+abbrev Turns : Task → State → Block → List Record → Type 0
+Turns t s b rs = opensTurning b ≡ true → Turned (wantedIn (t .table) s b) rs
+
+turns : (t : Task) (s : State) (b : Block) (left : ℕ) → alarmIn (t .table) (t .settings) s b left ≡ 0 → Turns t s b (doneRecords (t .table) (t .settings) s b)
+turns t s b left well opens = block-turned (t .table) (t .settings) s b opens left well
+
+abbrev Threads : Task → State → Block → List Record → Type 0
+Threads t s b rs = opensThreading b ≡ true → Threaded (threadIn (t .table) (t .settings) s b) rs
+
+threads : (t : Task) (s : State) (b : Block) (left : ℕ) → alarmIn (t .table) (t .settings) s b left ≡ 0 → Threads t s b (doneRecords (t .table) (t .settings) s b)
+threads t s b left well opens = block-threaded (t .table) (t .settings) s b opens left well
+
+-- ---- of every input
+module _ (tape : List ℕ) (table : List ℤ) (set : Settings) where
+  pub demand-three : (bytes : ℕ) → DemandThree tape table set bytes
+  demand-three bytes = every-run Turns turns tape table set bytes .steps
+
+  pub thread-promise : (bytes : ℕ) → ThreadPromise tape table set bytes
+  thread-promise bytes = every-run Threads threads tape table set bytes .steps
+
+  pub demand-three-in-buffer : (b : List ℕ) → DemandThreeInBuffer tape table set b
+  demand-three-in-buffer b =
+      each-from (λ st k a opens. record { x = a .0 .x; z = a .0 .z; turned = a .1 opens }) 0 (interpretation tape table set (length b) .steps) (every-read Turns turns tape table set b .steps)
+
+  pub thread-promise-in-buffer : (b : List ℕ) → ThreadPromiseInBuffer tape table set b
+  thread-promise-in-buffer b =
+      each-from (λ st k a opens. record { stands = a .0; threaded = a .1 opens }) 0 (interpretation tape table set (length b) .steps) (every-read Threads threads tape table set b .steps)

@@ -124,7 +124,7 @@ module _ (table : List ℤ) (set : Settings) (s : State) (b : Block) (known : Ta
         fitting-append (speedAndTool t b) (spindleAndCoolant t b ++ (doing d ++ stopping (done t d) b)) before-fitting
         (fitting-append (spindleAndCoolant t b) (doing d ++ stopping (done t d) b) switched-fitting
         (fitting-append (doing d) (stopping (done t d) b)
-        (doing-fitting d (right-in table set s b left well) (known-in table set s b known h w at-f))
+        (doing-fitting d (right-in table set s b left well) (known-in table set s b known range h w at-f))
         after-fitting))
 
   pub feed-after : doneState table set s b .f < 10_000_000

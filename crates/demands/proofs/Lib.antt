@@ -2,6 +2,7 @@
 pub mod Table
 pub mod Quiet
 pub mod Opening
+pub mod Threads
 pub mod Named
 pub mod Linked
 pub mod Results

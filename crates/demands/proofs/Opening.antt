@@ -16,6 +16,7 @@ use Rattle.block.specs.Slots.{has, groupZeroIs, sSlot, tSlot, spindleSlot, flow
 use Rattle.acts.specs.Acting.{motionBy}
 use Rattle.state.specs.Modal.{blockMotion, settled}
 use Rattle.state.specs.Target.{offsetOf}
+use Rattle.codes.specs.declared.meaning.Motion.{Motion}
 use Rattle.codes.specs.declared.meaning.Motion.the-variants as motion
 use Rattle.block.specs.declared.words.Block.{Block}
 use Rattle.axes.specs.Goes.{inwardOf, acrossOf}
@@ -48,25 +49,26 @@ both-true : (a b : Bool) → (a && b) ≡ true → (a ≡ true) × (b ≡ true)
 both-true true b h = (refl, h)
 both-true false b h = absurd (subst T (sym h) tt)
 
+-- the motion of a block whose own G word of group 0 is n
+pub motion-of : (n : ℕ) (m : Motion) → ((before : Kept) → motionBy (gCode n) before ≡ kept.Of m) → (before : Kept) (b : Block) → groupZeroIs b n ≡ true → blockMotion before b ≡ kept.Of m
+unfolding groupZeroIs blockMotion codeIn gIn
+motion-of n m is before b h =
+    let p = both-true (has b motionSlot) (eqb (natAbs (getD (b .value) motionSlot (pos 0))) n) h in
+    let e = eqb-true (natAbs (getD (b .value) motionSlot (pos 0))) n (p .1) in
+    ap (λ (t : Bool). motionBy (cond t (gCode (natAbs (getD (b .value) motionSlot (pos 0)))) code.Unknown) before) (p .0)
+    ∙ ap (λ (k : ℕ). motionBy (gCode k) before) e
+    ∙ is before
+
 turning-code : (before : Kept) → motionBy (gCode 84) before ≡ kept.Of motion.Turning
 unfolding gCode motionBy
 turning-code before = refl
-
-pub turning-motion : (before : Kept) (b : Block) → opensTurning b ≡ true → blockMotion before b ≡ kept.Of motion.Turning
-unfolding groupZeroIs blockMotion codeIn gIn
-turning-motion before b h =
-    let p = both-true (has b motionSlot) (eqb (natAbs (getD (b .value) motionSlot (pos 0))) 84) h in
-    let e = eqb-true (natAbs (getD (b .value) motionSlot (pos 0))) 84 (p .1) in
-    ap (λ (t : Bool). motionBy (cond t (gCode (natAbs (getD (b .value) motionSlot (pos 0)))) code.Unknown) before) (p .0)
-    ∙ ap (λ (n : ℕ). motionBy (gCode n) before) e
-    ∙ turning-code before
 
 module _ (table : List ℤ) (set : Settings) (s : State) (b : Block) (opens : opensTurning b ≡ true) where
   pub turning-deed : deedIn table set s b ≡ deed.Cycle (cycle.Turning (wantedIn table s b))
   unfolding deedIn deedOf moveOf sendingOf wantedIn
   turning-deed =
-      ap (λ (k : Kept). deedOf k b (sendingOf table set s b)) (turning-motion (s .motion) b opens)
-      ∙ ap (λ (c : Turning). deed.Cycle (cycle.Turning c)) (is-wanted b (settled s b) (offsetOf table (settled s b)) (set .retract))
+      ap (λ (k : Kept). deedOf k b (sendingOf table set s b)) (motion-of 84 motion.Turning turning-code (s .motion) b opens)
+      ∙ ap (λ (c : Turning). deed.Cycle (cycle.Turning c)) (is-wanted b (settled s b) (offsetOf table (settled s b)) (set .retract) (set .«empty_cuts»))
 
 -- ---- the other records of a block are no feeds, and stand where the cycle starts
 module _ (table : List ℤ) (set : Settings) (s : State) (b : Block) where

@@ -10,7 +10,7 @@ use Rattle.numbers.specs.Numbers.{digitsOf, unsignedPath, pathOf, digitsIn, num
 use Rattle.addresses.specs.Words.{capital, endsNumber, formOf, numberWord, indexedWord, wordAt, nextWord, wordsUp, wordsFrom}
 use Rattle.codes.specs.Codes.{gCode, mCode}
 use Rattle.block.specs.Slots.{has, groupZeroIs, codeIn, anyOf, gIn, mIn}
-use Rattle.rules.specs.Rules.{callsOrJumps, unknownNumber, lateN, afterProgram, axisTwice, lWordWrong, moreThanL, dWordWrong, broken, brokenBy, judged, callWrong, pathWrong, isForeign, dWordMissing, motionWrong}
+use Rattle.rules.specs.Rules.{callsOrJumps, unknownNumber, lateN, afterProgram, axisTwice, lWordWrong, moreThanL, dWordWrong, broken, brokenBy, judged, callWrong, pathWrong, isForeign, dWordMissing, bitsWrong, motionWrong}
 use Rattle.block.specs.Words.{slotOf, noWords, isEnd, putWord, isProgramAddress, faultyRest, gather, headBy, headOf, lineOf}
 use Rattle.acts.specs.Acting.{returnsBy, motionBy, keep, shiftBy, endsBy, cuttingBy, revolutionBy}
 use Rattle.state.specs.Modal.{blockMotion, correctionAfter, feedAfter, dueAfter, settled}
@@ -40,7 +40,7 @@ use Rattle.demands.specs.Table.{table, allHold}
 pub pieces-come-out : allHold table ≡ true
 unfolding count pieces inTable roomOf seek opensTape isLineFeed lineAt gapOf linesUp lines digitsOf unsignedPath pathOf digitsIn numberOf capital endsNumber formOf numberWord
     indexedWord wordAt nextWord wordsUp wordsFrom gCode mCode has anyOf groupZeroIs callsOrJumps unknownNumber lateN afterProgram axisTwice lWordWrong standsFreely standsWith standsBy isTaken moreThanL
-    callWrong pathWrong isForeign dWordMissing motionWrong dWordWrong broken brokenBy judged slotOf noWords isEnd endsBy
+    callWrong pathWrong isForeign dWordMissing bitsWrong motionWrong dWordWrong broken brokenBy judged slotOf noWords isEnd endsBy
     putWord isProgramAddress faultyRest gather headBy headOf lineOf hereOf foundBy seekLine blockOfProgram headAlarm lineAlarm noted endsWith readLines readOf
     rapidTo feedTo dwellAt outsideSpan outside anyOutside tooShort passCount passOn passes turning recordCount wrong stepCount steps cutCount cutting dwelling plunge plunges
     grooving plungeCount recordCountGrooving codeIn gIn motionBy blockMotion keep shiftBy cuttingBy revolutionBy correctionAfter feedAfter dueAfter settled timesOf steered flowBy mIn

@@ -16,8 +16,9 @@ use Rattle.reading.specs.Reading.{readOf}
 use Rattle.reading.specs.declared.read.Read.{Read}
 use Rattle.reading.specs.declared.read.Read.the-variants as read
 use Rattle.turning.specs.Turned.{Turned}
+use Rattle.threading.specs.Threaded.{Threaded}
 use Rattle.moves.specs.Last.{lastOf}
-use Rattle.demands.specs.Opens.{opensTurning, wantedIn}
+use Rattle.demands.specs.Opens.{opensTurning, wantedIn, opensThreading, threadIn}
 use Rattle.settings.specs.declared.control.Settings.{Settings}
 use Rattle.steps.specs.Steps.{Task, taskOf, Step, blockOn}
 use Rattle.answers.specs.Answers.{placeOf, countOf}
@@ -71,6 +72,35 @@ CutIn t e st k = opensTurning (blockOn (t .tape) (st .place)) ≡ true → Turne
 abbrev pub DemandThreeInBuffer : List ℕ → List ℤ → Settings → List ℕ → Type 0
 DemandThreeInBuffer tape table set b =
     EachFrom (CutIn (task tape table set (length b)) (bufferOf tape table set b)) 0 (interpretation tape table set (length b) .steps)
+
+-- ---- THE PROMISE OF THREADS (02, request 1), said as demand 3 is
+-- a step whose block is a G85 keeps the promise of the thread that its words ask for in the state before it
+abbrev pub Threads : Task → Step → Type 0
+Threads t st =
+    opensThreading (blockOn (t .tape) (st .place)) ≡ true
+    → Threaded (threadIn (t .table) (t .settings) (st .before .state) (blockOn (t .tape) (st .place))) (st .records)
+
+-- of every tape, table and settings, and every length of the buffer: every G85 that the run opened
+abbrev pub ThreadPromise : List ℕ → List ℤ → Settings → ℕ → Type 0
+ThreadPromise tape table set bytes = Each (Threads (task tape table set bytes)) (interpretation tape table set bytes .steps)
+
+-- a step in the buffer begins where the records before it have left the axes
+pub record StandsIn (t : Task) (e : List ℕ) (st : Step) (k : ℕ) : Type 0 where
+  pub x : st .before .state .x ≡ lastOf (λ r. r .x) (t .settings .x) (recordsIn e 0 k)
+  pub z : st .before .state .z ≡ lastOf (λ r. r .z) (t .settings .z) (recordsIn e 0 k)
+
+-- a G85 in the buffer: it starts there, and its records keep its promise
+pub record ThreadedIn (t : Task) (e : List ℕ) (st : Step) (k : ℕ) : Type 0 where
+  pub stands : StandsIn t e st k
+  pub threaded : Threaded (threadIn (t .table) (t .settings) (st .before .state) (blockOn (t .tape) (st .place))) (recordsIn e k (length (st .records)))
+
+abbrev pub ThreadsIn : Task → List ℕ → Step → ℕ → Type 0
+ThreadsIn t e st k = opensThreading (blockOn (t .tape) (st .place)) ≡ true → ThreadedIn t e st k
+
+-- of every tape, table, settings and buffer b, said of the bytes that are in the buffer after the run
+abbrev pub ThreadPromiseInBuffer : List ℕ → List ℤ → Settings → List ℕ → Type 0
+ThreadPromiseInBuffer tape table set b =
+    EachFrom (ThreadsIn (task tape table set (length b)) (bufferOf tape table set b)) 0 (interpretation tape table set (length b) .steps)
 
 -- ---- demands 1 and 2
 -- the header's place: that of the list where it is complete, and as it came on an alarm

@@ -1,4 +1,4 @@
--- DEMAND 3, which G84 a block opens: read off the block's words and the state before it, and not off what the block did.
+-- DEMAND 3, which G84 a block opens, and which G85, for the promise of threads: read off the block's words and the state before it, and not off what the block did.
 use mathlib.Core.Bool.{Bool}
 use mathlib.Core.List.{List}
 use lib.IntN.{ℤ}
@@ -7,8 +7,10 @@ use Rattle.block.specs.declared.words.Block.{Block}
 use Rattle.state.specs.Modal.{settled}
 use Rattle.state.specs.Target.{offsetOf}
 use Rattle.state.specs.declared.modal.State.{State}
-use Rattle.deeds.specs.Wanted.{wanted}
+use Rattle.deeds.specs.Wanted.{wanted, threadWanted}
+use Rattle.settings.specs.declared.control.Settings.{Settings}
 use Rattle.turning.specs.declared.cycle.Turning.{Turning}
+use Rattle.threading.specs.declared.thread.Thread.{Thread}
 
 -- the G word of group 0 that applies is G84
 abbrev pub opensTurning : Block → Bool
@@ -18,3 +20,10 @@ opensTurning b = groupZeroIs b 84
 -- G and T words act before its move." (A G84 with a T word or a word of group 3 or 5 is alarm 16, so that its offset is the one of before.)
 unfoldable pub wantedIn : List ℤ → State → Block → Turning
 wantedIn table s b = wanted b (settled s b) (offsetOf table (settled s b))
+
+-- the same of G85: the thread that it asks for, with the empty cuts of the settings where it names none
+abbrev pub opensThreading : Block → Bool
+opensThreading b = groupZeroIs b 85
+
+unfoldable pub threadIn : List ℤ → Settings → State → Block → Thread
+threadIn table set s b = threadWanted b (settled s b) (offsetOf table (settled s b)) (set .«empty_cuts»)

@@ -5,7 +5,7 @@ use mathlib.Core.List.{List, [], _∷_, _++_}
 use Prim.Native.Nat.{ℕ}
 use lib.Dec.{ltb, eqb}
 use lib.ListN.{length}
-use Rattle.acts.specs.Stands.{none, standsBy, isTaken}
+use Rattle.acts.specs.Stands.{none, greatestBits, standsBy, isTaken}
 use Rattle.acts.specs.declared.stands.Stands.{Stands}
 use Rattle.acts.specs.declared.stands.Path.{Path}
 use Rattle.acts.specs.declared.stands.Path.the-variants.{Any, Forbidden, EachAxis}
@@ -15,7 +15,7 @@ use Rattle.block.specs.declared.words.Head.{Head}
 use Rattle.block.specs.declared.words.Head.the-variants.{Blank, ProgramLine, BlockLine, Other}
 use Rattle.block.specs.declared.words.ReadLine.{ReadLine}
 use Rattle.rules.specs.declared.judge.Judged.{Judged}
-use Rattle.block.specs.Slots.{xSlot, zSlot, uSlot, wSlot, fSlot, sSlot, tSlot, dSlot, lSlot, motionSlot, steeringSlot, pathSlots, mSlots, pSlots, dSlots, indexes, has, gIn, anyOf, anyIn}
+use Rattle.block.specs.Slots.{xSlot, zSlot, uSlot, wSlot, fSlot, sSlot, tSlot, dSlot, lSlot, motionSlot, steeringSlot, pathSlots, mSlots, pSlots, dSlots, indexes, has, codeIn, gIn, anyOf, anyIn}
 use Rattle.block.specs.Words.{longestLine, lineOf}
 
 -- "a G25 or G27 block": group 6
@@ -74,9 +74,13 @@ dWordWrong takes b = anyOf (λ i. isForeign takes b i) indexes
 unfoldable pub dWordMissing : ℕ → Block → Bool
 dWordMissing needs b = not (eqb needs none) && not (has b (dSlot needs))
 
+-- 02: "D7 above 7": of the D word that counts as bits
+unfoldable pub bitsWrong : ℕ → Block → Bool
+bitsWrong bits b = not (eqb bits none) && ltb greatestBits (codeIn b (dSlot bits))
+
 -- one of these, or a P word, which no motion takes
 abbrev pub wrongBy : Stands → Block → Bool
-wrongBy a b = callWrong (a .calls) b || (pathWrong (a .path) b || ((anyIn b pSlots || dWordWrong (a .takes) b) || dWordMissing (a .needs) b))
+wrongBy a b = callWrong (a .calls) b || (pathWrong (a .path) b || ((anyIn b pSlots || dWordWrong (a .takes) b) || (dWordMissing (a .needs) b || bitsWrong (a .bits) b)))
 
 unfoldable pub motionWrong : Block → Bool
 motionWrong b = wrongBy (standsBy (gIn b motionSlot)) b

@@ -9,7 +9,7 @@ ghost use Prim.Native.Nat.{_-_, _≤_};
 ghost use lib.Dec.{eqb};
 ghost use Rattle.acts.specs.Stands.{none, isTaken};
 ghost use Rattle.block.specs.Slots.{slots, numbersFrom, anyIn};
-ghost use Rattle.rules.specs.Rules.{callsOrJumps, axisTwice, lWordWrong, moreThanL, callWrong, pathWrong, dWordWrong, dWordMissing, motionWrong, broken};
+ghost use Rattle.rules.specs.Rules.{callsOrJumps, axisTwice, lWordWrong, moreThanL, callWrong, pathWrong, dWordWrong, dWordMissing, bitsWrong, motionWrong, broken};
 
 // P and D have the indexes 0 to 9.
 const INDEXES: usize = 10;
@@ -132,6 +132,17 @@ fn d_word_missing(needs: usize, b: Block) -> bool
     !has(b, block::words::d_slot(needs))
 }
 
+// "D7 above 7": the D word that counts as bits.
+fn bits_wrong(bits: usize, b: Block) -> bool
+    requires { ⌜ bits ≤ none ⌝ }
+    ensures { λ r. ⌜ r ≡ bitsWrong bits b ⌝ }
+{
+    if bits == acts::stands::NONE {
+        return false;
+    }
+    acts::stands::GREATEST_BITS < block::words::code_in(b, block::words::d_slot(bits))
+}
+
 // Whether the block has a word that its own motion forbids, or lacks one that it asks for.
 fn motion_wrong(b: Block) -> bool
     ensures { λ r. ⌜ r ≡ motionWrong b ⌝ }
@@ -142,7 +153,8 @@ fn motion_wrong(b: Block) -> bool
     let call = call_wrong(asks.calls, b);
     let settings = any(b, block::words::P, block::words::D) | d_word_wrong(takes, b);
     let missing = d_word_missing(asks.needs, b);
-    call | (path_wrong(path, b) | (settings | missing))
+    let bits = bits_wrong(asks.bits, b);
+    call | (path_wrong(path, b) | (settings | (missing | bits)))
 }
 
 // Whether a block breaks a word rule.

@@ -12,7 +12,7 @@ use Rattle.whole.specs.Position.{inTable}
 use Rattle.settings.specs.declared.limits.Span.{Span}
 use Rattle.settings.specs.declared.control.Settings.{Settings}
 use Rattle.settings.specs.Known.{Table, SpanIn, Right}
-use Rattle.settings.specs.Wrong.{tableSize, greatestRetract, someOut, tableWrong, spanWrong, settingsWrong}
+use Rattle.settings.specs.Wrong.{tableSize, greatestRetract, greatestEmptyCuts, someOut, tableWrong, spanWrong, settingsWrong}
 
 -- neither of two tests holds
 or-not : (a b : Bool) → (a || b) ≡ false → (a ≡ false) × (b ≡ false)
@@ -43,8 +43,9 @@ pub right : (table : List ℤ) (set : Settings) → settingsWrong table set ≡ 
 unfolding settingsWrong
 right table set e =
     let d = or-not _ _ e in
-    let g = or-not _ _ (d .0) in
+    let c = or-not _ _ (d .0) in
+    let g = or-not _ _ (c .0) in
     let s = or-not _ _ (or-not _ _ (d .1) .0) in
     let x = span-right (set .limits .x) (set .x) (s .0) in
     let z = span-right (set .limits .z) (set .z) (s .1) in
-    record { offsets = table-right table (g .0); range = record { retract = ltb-false greatestRetract (set .retract) (g .1); x = x .0; z = z .0 }; starts = record { x = x .1; z = z .1 } }
+    record { offsets = table-right table (g .0); range = record { retract = ltb-false greatestRetract (set .retract) (g .1); x = x .0; z = z .0; emptyCuts = ltb-false greatestEmptyCuts (set .«empty_cuts») (c .1) }; starts = record { x = x .1; z = z .1 } }

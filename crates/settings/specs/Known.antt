@@ -8,7 +8,7 @@ use lib.ListN.{length, getD}
 use Rattle.whole.specs.Position.{inTable}
 use Rattle.settings.specs.declared.limits.Span.{Span}
 use Rattle.settings.specs.declared.control.Settings.{Settings}
-use Rattle.settings.specs.Wrong.{tableSize, greatestRetract}
+use Rattle.settings.specs.Wrong.{tableSize, greatestRetract, greatestEmptyCuts}
 
 pub record Table (table : List ℤ) : Type 0 where
   pub size : length table ≡ tableSize
@@ -23,6 +23,7 @@ pub record InRange (set : Settings) : Type 0 where
   pub retract : set .retract ≤ greatestRetract
   pub x : SpanIn (set .limits .x)
   pub z : SpanIn (set .limits .z)
+  pub emptyCuts : set .«empty_cuts» ≤ greatestEmptyCuts
 
 pub record Starts (set : Settings) : Type 0 where
   pub x : inTable (set .x) ≡ true

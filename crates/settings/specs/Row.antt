@@ -1,6 +1,6 @@
--- The settings as a row of numbers: main, lowest subroutine, retract, start X, start Z, X lowest, X highest, Z lowest, Z highest. "settings that are not nine numbers, or a number out of its
--- range, are alarm 1, whatever the rest is". Which ranges there are is said once, in Wrong.antt; here is only what the settings cannot hold: a number below 0 for main, lowest subroutine or
--- retract.
+-- The settings as a row of numbers: main, lowest subroutine, retract, start X, start Z, X lowest, X highest, Z lowest, Z highest, empty cuts. Settings that are not as many, or of which
+-- one is out of its range, are alarm 1, whatever the rest is. Which ranges there are is said once, in Wrong.antt; here is only what the settings cannot hold: a number below 0 for main, lowest
+-- subroutine, retract or the empty cuts.
 use mathlib.Core.Bool.{Bool, not, _||_}
 use mathlib.Core.List.{List}
 use Prim.Native.Nat.{ℕ}
@@ -38,8 +38,11 @@ zLowestAt = 7
 abbrev pub zHighestAt : ℕ
 zHighestAt = 8
 
+abbrev pub emptyCutsAt : ℕ
+emptyCutsAt = 9
+
 abbrev pub settingsCount : ℕ
-settingsCount = 9
+settingsCount = 10
 
 -- the number at a place
 abbrev pub at : List ℤ → ℕ → ℤ
@@ -49,7 +52,7 @@ abbrev pub isBelow : List ℤ → ℕ → Bool
 isBelow numbers k = ltZ (at numbers k) (pos 0)
 
 unfoldable pub unfit : List ℤ → Bool
-unfit numbers = not (eqb (length numbers) settingsCount) || ((isBelow numbers mainAt || isBelow numbers lowestSubroutineAt) || isBelow numbers retractAt)
+unfit numbers = not (eqb (length numbers) settingsCount) || (((isBelow numbers mainAt || isBelow numbers lowestSubroutineAt) || isBelow numbers retractAt) || isBelow numbers emptyCutsAt)
 
 abbrev pub settingsOf : List ℤ → Settings
 settingsOf numbers = record {
@@ -62,4 +65,5 @@ settingsOf numbers = record {
     x = record { lowest = at numbers xLowestAt; highest = at numbers xHighestAt };
     z = record { lowest = at numbers zLowestAt; highest = at numbers zHighestAt };
   };
+  «empty_cuts» = natAbs (at numbers emptyCutsAt);
 }

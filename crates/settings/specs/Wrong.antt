@@ -1,5 +1,5 @@
 -- Alarm 1: "table not 208 numbers, a number out of range, lowest limit above highest, start outside limits, lowest subroutine above 255, main above 6999 or from lowest subroutine to 255". 01:
--- "Offset table: 208 signed numbers .. each within -9,999,999 to 9,999,999. Settings: .. retract (001: S02, factory 500) 0 to 32,767; start position; soft limits .., all within the same range".
+-- "Offset table: 208 signed numbers .. each within -9,999,999 to 9,999,999. Settings: .. retract (001: S02, factory 500) 0 to 32,767; start position; soft limits .., all within the same range". 02: "a new setting .. (S01, factory 1, 0 to 32,767)".
 use mathlib.Core.Bool.{Bool, false, not, _&&_, _||_}
 use mathlib.Core.List.{List, [], _∷_}
 use Prim.Native.Nat.{ℕ}
@@ -18,6 +18,9 @@ tableSize = 208
 
 abbrev pub greatestRetract : ℕ
 greatestRetract = 32_767
+
+abbrev pub greatestEmptyCuts : ℕ
+greatestEmptyCuts = 32_767
 
 -- the highest number of a program, and of one that can be called
 abbrev pub highestProgram : ℕ
@@ -44,5 +47,5 @@ tableWrong table = not (eqb (length table) tableSize) || someOut table
 
 unfoldable pub settingsWrong : List ℤ → Settings → Bool
 settingsWrong table set =
-    (tableWrong table || ltb greatestRetract (set .retract))
+    ((tableWrong table || ltb greatestRetract (set .retract)) || ltb greatestEmptyCuts (set .«empty_cuts»))
     || ((spanWrong (set .limits .x) (set .x) || spanWrong (set .limits .z) (set .z)) || numbersWrong (set .main) (set .«lowest_subroutine»))

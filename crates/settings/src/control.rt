@@ -11,12 +11,16 @@ pub const TABLE_SIZE: usize = 208;
 
 pub const GREATEST_RETRACT: u32 = 32_767;
 
+// The most empty cuts that a thread has where its block names none (02: "S01, factory 1, 0 to 32,767").
+pub const GREATEST_EMPTY_CUTS: u32 = 32_767;
+
 // The highest number of a program, and of one that can be called.
 pub const HIGHEST_PROGRAM: u32 = 6_999;
 
 pub const HIGHEST_SUBROUTINE: u32 = 255;
 
-// (01: "Settings: main program number; lowest subroutine number ..; retract ..; start position; soft limits X and Z, lowest and highest".)
+// (01: "Settings: main program number; lowest subroutine number ..; retract ..; start position; soft limits X and Z, lowest and highest"; 02: "Empty cuts repeat the last pass D4
+// times, else as a new setting says".)
 pub struct Settings {
     pub main: u32,
     pub lowest_subroutine: u32,
@@ -24,6 +28,7 @@ pub struct Settings {
     pub x: i32,
     pub z: i32,
     pub limits: Limits,
+    pub empty_cuts: u32,
 }
 
 // Whether the table has not its size, or a number out of range.
@@ -66,7 +71,9 @@ pub fn settings_wrong(table: &[i32], set: Settings) -> bool
     let limits = set.limits;
     let x = limits.x;
     let z = limits.z;
-    let given = table_wrong(table) | (GREATEST_RETRACT < set.retract);
+    let given = table_wrong(table)
+        | (GREATEST_RETRACT < set.retract)
+        | (GREATEST_EMPTY_CUTS < set.empty_cuts);
     let spans = span_wrong(x, set.x) | span_wrong(z, set.z);
     given | (spans | numbers_wrong(set.main, set.lowest_subroutine))
 }

@@ -24,17 +24,22 @@ pub const Z_LOWEST: usize = 7;
 
 pub const Z_HIGHEST: usize = 8;
 
-// How many settings there are.
-pub const COUNT: usize = 9;
+pub const EMPTY_CUTS: usize = 9;
 
-// Whether they are not as many, or main, lowest subroutine or retract is below 0. What else alarm 1 asks of them is judged of the settings (`control::settings_wrong`).
+// How many settings there are.
+pub const COUNT: usize = 10;
+
+// Whether they are not as many, or main, lowest subroutine, retract or the empty cuts are below 0. What else alarm 1 asks of them is judged of the settings (`control::settings_wrong`).
 pub fn unfit(numbers: &[i32]) -> bool
     ensures { λ r. ⌜ r ≡ unfit (now (numbers .entry)) ⌝ }
 {
     if numbers.len() != COUNT {
         return true;
     }
-    (numbers[MAIN] < 0) | (numbers[LOWEST_SUBROUTINE] < 0) | (numbers[RETRACT] < 0)
+    (numbers[MAIN] < 0)
+        | (numbers[LOWEST_SUBROUTINE] < 0)
+        | (numbers[RETRACT] < 0)
+        | (numbers[EMPTY_CUTS] < 0)
 }
 
 pub fn settings_of(numbers: &[i32]) -> Settings
@@ -56,5 +61,6 @@ pub fn settings_of(numbers: &[i32]) -> Settings
         x: numbers[START_X],
         z: numbers[START_Z],
         limits: Limits { x, z },
+        empty_cuts: whole::signed::magnitude(numbers[EMPTY_CUTS]),
     }
 }

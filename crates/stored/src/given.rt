@@ -1,5 +1,5 @@
 // What a case is run with: the numbers of the table and the settings. They stand in one array, the table's 208 first and then the settings, as 01's
-// `listmoves` has them until a line names another: `=retract 300`, `=offset 3 -1500` for number 3 of the table, `=bytes 24` for the buffer's size, `=numbers 207` for a table cut short; the first two letters of a word tell it.
+// `listmoves` has them until a line names another: `=retract 300`, `=empty 2`, `=offset 3 -1500` for number 3 of the table, `=bytes 24` for the buffer's size, `=numbers 207` for a table cut short; the first two letters of a word tell it.
 use numbers::Number;
 use numbers::NumberForm;
 ghost use mathlib.Core.Path.{_≡_};
@@ -34,6 +34,8 @@ pub const Z_LOW: usize = TABLE + settings::row::Z_LOWEST;
 
 pub const Z_HIGH: usize = TABLE + settings::row::Z_HIGHEST;
 
+pub const EMPTY: usize = TABLE + settings::row::EMPTY_CUTS;
+
 const NUMBERS: usize = TABLE + settings::row::COUNT;
 
 const BYTES: usize = NUMBERS + 1;
@@ -58,6 +60,7 @@ pub fn usual() -> [i32; ALL]
     given[X_HIGH] = 200_000;
     given[Z_LOW] = -200_000;
     given[Z_HIGH] = 200_000;
+    given[EMPTY] = 1;
     given[NUMBERS] = 208;
     given[BYTES] = 64_008;
     given
@@ -102,6 +105,7 @@ fn place_of(first: u8, second: u8) -> usize {
         b'r' => RETRACT,
         b'x' => axis_place(second, X, X_LOW, X_HIGH),
         b'z' => axis_place(second, Z, Z_LOW, Z_HIGH),
+        b'e' => EMPTY,
         b'n' => NUMBERS,
         b'b' => BYTES,
         b'o' => OFFSET,

@@ -33,7 +33,7 @@ table-right = record { size = refl; each = λ i. ap inTable (zeros tableSize i) 
 -- ---- the settings
 pub range-right : InRange listmoves
 unfolding inTable
-range-right = record { retract = omega arith; x = record { lowest = refl; highest = refl }; z = record { lowest = refl; highest = refl } }
+range-right = record { retract = omega arith; x = record { lowest = refl; highest = refl }; z = record { lowest = refl; highest = refl }; emptyCuts = omega arith }
 
 -- ---- a block that was done
 pub carried : (table : List ℤ) (set : Settings) (s : State) (b : Block) (room k : ℕ) → set ≡ listmoves → Sound s → k ≤ room → {d : BlockDone}

@@ -19,7 +19,7 @@ use Rattle.state.specs.Known.{Numbers, Sound, Sent}
 use Rattle.state.proofs.Sending.{table-fits, Offset, offset-x, offset-z}
 use Rattle.state.proofs.Ranges.{settled-sound, sent-by, near-x, near-z}
 use Rattle.block.specs.declared.words.Block.{Block}
-use Rattle.settings.specs.Known.{Table}
+use Rattle.settings.specs.Known.{Table, InRange}
 use Rattle.settings.specs.declared.control.Settings.{Settings}
 use Rattle.state.specs.declared.modal.State.{State}
 use Rattle.state.specs.declared.target.Pair.{Pair}
@@ -67,22 +67,25 @@ module _ (table : List ℤ) (s : State) (b : Block) (known : Table table) (h : S
   -- the sending that the code makes of its parts
   pub sending-made : (set : Settings) {x z ox oz x-target z-target : ℤ} → x ≡ t .x → z ≡ t .z → ox ≡ offsetOf table t .x → oz ≡ offsetOf table t .z
       → x-target ≡ targetX t b ox → z-target ≡ targetZ t b oz
-      → record { x = x; z = z; «x_target» = x-target; «z_target» = z-target; f = t .f; g95 = t .g95; retract = set .retract } ≡ sendingOf table set s b
+      → record { x = x; z = z; «x_target» = x-target; «z_target» = z-target; f = t .f; g95 = t .g95; retract = set .retract; «empty_cuts» = set .«empty_cuts» } ≡ sendingOf table set s b
   unfolding sendingOf
   sending-made set ex ez eox eoz ext ezt =
       let xt = ext ∙ ap (targetX t b) eox in
       let zt = ezt ∙ ap (targetZ t b) eoz in
-      (λ i. record { x = ex i; z = ez i; «x_target» = xt i; «z_target» = zt i; f = t .f; g95 = t .g95; retract = set .retract })
+      (λ i. record { x = ex i; z = ez i; «x_target» = xt i; «z_target» = zt i; f = t .f; g95 = t .g95; retract = set .retract; «empty_cuts» = set .«empty_cuts» })
       ∙ (λ i.
       let u = e i in
       let o = offsetOf table u in
-      record { x = u .x; z = u .z; «x_target» = targetX u b (o .x); «z_target» = targetZ u b (o .z); f = u .f; g95 = u .g95; retract = set .retract })
+      record { x = u .x; z = u .z; «x_target» = targetX u b (o .x); «z_target» = targetZ u b (o .z); f = u .f; g95 = u .g95; retract = set .retract; «empty_cuts» = set .«empty_cuts» })
 
 -- ---- what is known of the sending, and so of the deed
 near-fits : (z s : ℤ) → natAbs (z -ℤ s) < 100_000_000 → inTable s ≡ true → SFits w32 z
 near-fits z s n h = let k = in-range s h in omega (whole, k .low, k .high, sub-in z s, abs (z -ℤ s), n)
 
-module _ (table : List ℤ) (set : Settings) (s : State) (b : Block) (known : Table table) (h : Sound s) (w : Worded b) (feed : settled s b .f < 2 ^ 32) where
+near-reach : (z s : ℤ) → natAbs (z -ℤ s) < 100_000_000 → inTable s ≡ true → natAbs z < 1_000_000_000
+near-reach z s n h = let k = in-range s h in omega (whole, k .low, k .high, sub-in z s, abs (z -ℤ s), abs z, n)
+
+module _ (table : List ℤ) (set : Settings) (s : State) (b : Block) (known : Table table) (range : InRange set) (h : Sound s) (w : Worded b) (feed : settled s b .f < 2 ^ 32) where
   sends : Sends (sendingOf table set s b)
   unfolding sendingOf
   sends =
@@ -99,6 +102,9 @@ module _ (table : List ℤ) (set : Settings) (s : State) (b : Block) (known : Ta
         f = feed;
         near-x = nx;
         near-z = nz;
+        reach-x = near-reach (targetX t b (o .x)) (t .x) nx (k .x);
+        reach-z = near-reach (targetZ t b (o .z)) (t .z) nz (k .z);
+        empty = range .emptyCuts;
       }
 
   pub known-in : Known (deedIn table set s b)

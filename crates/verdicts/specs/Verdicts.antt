@@ -26,7 +26,7 @@ unfoldable pub sendingOf : List ℤ → Settings → State → Block → Sending
 sendingOf table set s b =
     let t = settled s b in
     let o = offsetOf table t in
-    record { x = t .x; z = t .z; «x_target» = targetX t b (o .x); «z_target» = targetZ t b (o .z); f = t .f; g95 = t .g95; retract = set .retract }
+    record { x = t .x; z = t .z; «x_target» = targetX t b (o .x); «z_target» = targetZ t b (o .z); f = t .f; g95 = t .g95; retract = set .retract; «empty_cuts» = set .«empty_cuts» }
 
 -- its deed, by its own motion, or the one that was kept before it
 unfoldable pub deedIn : List ℤ → Settings → State → Block → Deed

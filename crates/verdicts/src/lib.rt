@@ -42,6 +42,7 @@ fn sending_of(table: &[i32], set: Settings, s: State, t: State, b: Block) -> Sen
         f: t.f,
         g95: t.g95,
         retract: set.retract,
+        empty_cuts: set.empty_cuts,
     }
 }
 

@@ -12,9 +12,12 @@ record-count-spec =
     (λ c. search needs)
     (λ c κs. right (c .before .c .given .1) (c .before .before .before .pre .0))
     (λ c. search needs)
+    (λ c κs. let is = c .before .c2 .given .1 in let h = c .before .before .before .pre in (known is (h .1) .3, right is (h .0)))
+    (λ c. search needs)
     (λ c κs.
-    let is = c .before .c2 .given .1 in
+    let is = c .before .c3 .given .1 in
     let n = known is (c .before .before .before .pre .1) in
     (right is (c .before .before .before .pre .0), n .4, n .5))
     (λ c. c .record-count .ensures ∙ counts (c .before .before .c .given .1))
-    (λ c. c .record-count2 .ensures ∙ counts (c .before .before .c2 .given .1)))
+    (λ c. c .record-count2 .ensures ∙ counts (c .before .before .c2 .given .1))
+    (λ c. c .record-count3 .ensures ∙ counts (c .before .before .c3 .given .1)))

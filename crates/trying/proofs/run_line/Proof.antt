@@ -19,6 +19,9 @@ run-block-requires c κs =
     let w = subst (λ (q : ReadLine). Worded (q .block)) (sym (l .read-line .ensures)) (worded (now (s .args .line))) in
     (s .pre .0, subst InRange (sym (c .before .of-listmoves .ensures)) range-right, s .pre .2 .state, w, s .pre .1, s .pre .2 .count)
 
+returns-3 : tie.Need-returns-3
+returns-3 c = let s = c .before .before .before .before .before .before .before .before .before .before .before .before .before .before .before .before .before .before in record { state = s .pre .2 .state; count = s .pre .2 .count }
+
 returns-4 : tie.Need-returns-4
 returns-4 c =
     let m = c .before .before .before in
@@ -45,6 +48,6 @@ run-line-spec =
     (λ c. search needs)
     (λ c κs. search needs)
     (λ c. search needs)
-    (λ c. search needs)
+    returns-3
     (λ c. search needs)
     returns-4)

@@ -34,7 +34,7 @@ returns c =
     let a = c .before .before .before in
     let r = a .args in
     let is = c .deed-of .ensures ∙ (λ i. deedOf (c .before .before .block-motion .ensures i) (r .b) (c .before .sending-of .ensures i)) in
-    (is, subst Known (sym is) (known-in (now (r .table)) (r .set) (r .s) (r .b) (a .pre .0) (a .pre .2) (a .pre .3) (subst (λ (u : State). u .f < 2 ^ 32) (a .pre .4) (feed-fits a))))
+    (is, subst Known (sym is) (known-in (now (r .table)) (r .set) (r .s) (r .b) (a .pre .0) (a .pre .1) (a .pre .2) (a .pre .3) (subst (λ (u : State). u .f < 2 ^ 32) (a .pre .4) (feed-fits a))))
 
 pub deed-in-spec : {M : Type 1} → statement M
 deed-in-spec =

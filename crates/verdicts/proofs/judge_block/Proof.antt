@@ -40,8 +40,7 @@ returns-2 : tie.Need-returns-2
 unfolding goingOf
 returns-2 c =
     let l = c .before in
-    let a = start-at l .args in
-    (
+    let a = start-at l .args in (
       (λ i. Goes (record { settled = deed-at l .before .settle .ensures i; deed = deed-at l .deed-in .ensures .0 i; count = asked l i .count }))
           ∙ sym (verdict-goes (now (a .table)) (a .set) (a .s) (a .b) (a .room) (sym (judged l) ∙ c .if1 .left)),
       deed-at l .deed-in .ensures .1,

@@ -47,10 +47,17 @@ returns-7 c =
     let s = c .before .before .before in
     keep-by (s .before .before .args .before) (kept-is (s .now .given .1) (c .enum-told7 .given .1))
 
+returns-8 : tie.Need-returns-8
+unfolding keep
+returns-8 c =
+    let s = c .before .before .before in
+    keep-by (s .before .before .args .before) (kept-is (s .now .given .1) (c .enum-told8 .given .1))
+
 pub keep-of-spec : {M : Type 1} → statement M
 keep-of-spec =
     tie.close
     (tie.spec
+    (λ c. search needs)
     (λ c. search needs)
     (λ c. search needs)
     (λ c. search needs)
@@ -65,4 +72,5 @@ keep-of-spec =
     returns-4
     returns-5
     returns-6
-    returns-7)
+    returns-7
+    returns-8)

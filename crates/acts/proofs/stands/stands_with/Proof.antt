@@ -34,6 +34,10 @@ returns-6 : tie.Need-returns-6
 unfolding standsWith
 returns-6 c = by (c .enum-told6 .given .1)
 
+returns-7 : tie.Need-returns-7
+unfolding standsWith
+returns-7 c = by (c .enum-told7 .given .1)
+
 pub stands-with-spec : {M : Type 1} → statement M
 stands-with-spec =
     tie.close
@@ -47,9 +51,11 @@ stands-with-spec =
     (λ c. search needs)
     (λ c. search needs)
     (λ c. search needs)
+    (λ c. search needs)
     returns
     returns-2
     returns-3
     returns-4
     returns-5
-    returns-6)
+    returns-6
+    returns-7)

@@ -6,17 +6,17 @@ use borrow.Author.Needs.{needs}
 use Rattle.codes.proofs.meaning.g_code.Statement.{statement}
 use Rattle.codes.proofs.meaning.g_code.Tie as tie
 
-sub-t23 : tie.Need-sub-t23
-sub-t23 c = past _ 53 (c .before .if1 .left) (search needs)
+sub-t25 : tie.Need-sub-t25
+sub-t25 c = past _ 53 (c .before .if1 .left) (search needs)
 
-add-t24 : tie.Need-add-t24
-add-t24 c = shift-a-fits _ (c .if2 .taken)
+add-t26 : tie.Need-add-t26
+add-t26 c = shift-a-fits _ (c .if2 .taken)
 
-sub-t26 : tie.Need-sub-t26
-sub-t26 c = past _ 56 (c .before .if2 .left) (search needs)
+sub-t28 : tie.Need-sub-t28
+sub-t28 c = past _ 56 (c .before .if2 .left) (search needs)
 
-add-t27 : tie.Need-add-t27
-add-t27 c = shift-b-fits _ (c .if3 .taken)
+add-t29 : tie.Need-add-t29
+add-t29 c = shift-b-fits _ (c .if3 .taken)
 
 returns : tie.Need-returns
 unfolding gCode
@@ -63,34 +63,38 @@ unfolding gCode
 returns-11 c = rw (c .match .keys11)
 
 returns-12 : tie.Need-returns-12
-returns-12 c = sym (shift-a _ (c .before .if1 .left) (c .if2 .taken) (search needs))
+unfolding gCode
+returns-12 c = rw (c .match .keys12)
 
 returns-13 : tie.Need-returns-13
-returns-13 c = sym (shift-b _ (c .before .if2 .left) (c .if3 .taken) (search needs))
+returns-13 c = sym (shift-a _ (c .before .if1 .left) (c .if2 .taken) (search needs))
 
 returns-14 : tie.Need-returns-14
-returns-14 c = sym (revolution _ (c .before .if4 .left) (c .if5 .taken))
+returns-14 c = sym (shift-b _ (c .before .if2 .left) (c .if3 .taken) (search needs))
 
 returns-15 : tie.Need-returns-15
-returns-15 c = sym (cutting _ (c .before .if5 .left) (c .if6 .taken))
+returns-15 c = sym (revolution _ (c .before .if4 .left) (c .if5 .taken))
 
 returns-16 : tie.Need-returns-16
-returns-16 c = sym (none-low _ (c .if1 .taken) (search needs) (search needs) (search needs) (search needs) (search needs) (search needs))
+returns-16 c = sym (cutting _ (c .before .if5 .left) (c .if6 .taken))
 
 returns-17 : tie.Need-returns-17
-returns-17 c = sym (none-middle _ (c .before .if3 .left) (c .if4 .taken) (search needs) (search needs) (search needs))
+returns-17 c = sym (none-low _ (c .if1 .taken) (search needs) (search needs) (search needs) (search needs) (search needs) (search needs))
 
 returns-18 : tie.Need-returns-18
-returns-18 c = sym (none-high _ (c .if6 .left))
+returns-18 c = sym (none-middle _ (c .before .if3 .left) (c .if4 .taken) (search needs) (search needs) (search needs) (search needs))
+
+returns-19 : tie.Need-returns-19
+returns-19 c = sym (none-high _ (c .if6 .left))
 
 pub g-code-spec : {M : Type 1} → statement M
 g-code-spec =
     tie.close
     (tie.spec
-    sub-t23
-    add-t24
-    sub-t26
-    add-t27
+    sub-t25
+    add-t26
+    sub-t28
+    add-t29
     returns
     returns-2
     returns-3
@@ -108,4 +112,5 @@ g-code-spec =
     returns-15
     returns-16
     returns-17
-    returns-18)
+    returns-18
+    returns-19)

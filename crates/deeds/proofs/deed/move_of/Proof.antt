@@ -5,7 +5,7 @@ use mir.Syntax.{w32}
 use mir.Val.{toZ, ofZ}
 use borrow.Author.Needs.{needs}
 use Rattle.moves.specs.Kinds.{rapid, feed, thread, dwell}
-use Rattle.cycles.specs.declared.Cycle.the-variants.{Turning, Grooving}
+use Rattle.cycles.specs.declared.Cycle.the-variants.{Turning, Threading, Grooving}
 use Rattle.deeds.specs.declared.deed.Deed.the-variants.{Dwell, Cycle}
 use Rattle.deeds.specs.Deed.{straightIf, moveOf}
 use Rattle.deeds.proofs.Doing.{move-by}
@@ -74,7 +74,13 @@ returns-6 : tie.Need-returns-6
 unfolding moveOf
 returns-6 c =
     let a = c .before .before .before .before .args in
-    (λ i. Cycle (Grooving (c .groove-of .ensures i))) ∙ move-by (a .b) (a .s) (c .before .enum-told6 .given .1)
+    (λ i. Cycle (Threading (c .thread-of .ensures i))) ∙ move-by (a .b) (a .s) (c .before .enum-told6 .given .1)
+
+returns-7 : tie.Need-returns-7
+unfolding moveOf
+returns-7 c =
+    let a = c .before .before .before .before .args in
+    (λ i. Cycle (Grooving (c .groove-of .ensures i))) ∙ move-by (a .b) (a .s) (c .before .enum-told7 .given .1)
 
 pub move-of-spec : {M : Type 1} → statement M
 move-of-spec =
@@ -97,9 +103,12 @@ move-of-spec =
     (λ c κs. search needs)
     (λ c. search needs)
     (λ c κs. search needs)
+    (λ c. search needs)
+    (λ c κs. search needs)
     returns
     returns-2
     returns-3
     returns-4
     returns-5
-    returns-6)
+    returns-6
+    returns-7)

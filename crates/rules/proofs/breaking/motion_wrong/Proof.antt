@@ -2,7 +2,7 @@
 use mathlib.Core.Path.{_≡_, sym, ap, _∙_, subst}
 use Rattle.acts.specs.declared.stands.Stands.{Stands}
 use Rattle.acts.specs.Stands.{none, standsBy}
-use Rattle.acts.proofs.Asking.{needs-in}
+use Rattle.acts.proofs.Asking.{needs-in, bits-in}
 use Prim.Native.Nat.{_≤_}
 use Rattle.block.specs.Slots.{motionSlot, gIn}
 use Rattle.rules.specs.Rules.{wrongBy, motionWrong}
@@ -20,15 +20,21 @@ d-word-missing-requires c κs =
     let a = c .before .before .before .before in
     subst (λ (x : Stands). x .needs ≤ none) (sym (asked a)) (needs-in (gIn (a .before .before .args .b) motionSlot))
 
+bits-wrong-requires : tie.Need-bits-wrong-requires
+bits-wrong-requires c κs =
+    let a = c .before .before .before .before .before in
+    subst (λ (x : Stands). x .bits ≤ none) (sym (asked a)) (bits-in (gIn (a .before .before .args .b) motionSlot))
+
 returns : tie.Need-returns
 unfolding motionWrong
 returns c =
-    let m = c .before in
+    let b = c .before in
+    let m = b .before in
     let d = m .before in
     let s = d .before in
     let k = s .before in
     let a = k .before .before in
-    either (k .call-wrong .ensures) (either (c .path-wrong .ensures) (either (either (s .any .ensures) (d .d-word-wrong .ensures)) (m .d-word-missing .ensures)))
+    either (k .call-wrong .ensures) (either (c .path-wrong .ensures) (either (either (s .any .ensures) (d .d-word-wrong .ensures)) (either (m .d-word-missing .ensures) (b .bits-wrong .ensures))))
     ∙ ap (λ (x : Stands). wrongBy x (a .before .before .args .b)) (asked a)
 
 pub motion-wrong-spec : {M : Type 1} → statement M
@@ -41,5 +47,6 @@ motion-wrong-spec =
     (λ c κs. search needs)
     (λ c κs. search needs)
     d-word-missing-requires
+    bits-wrong-requires
     (λ c κs. search needs)
     returns)

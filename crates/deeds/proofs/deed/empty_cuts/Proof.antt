@@ -1,0 +1,24 @@
+-- `deeds::deed::empty_cuts` meets its contract.
+use mathlib.Core.Path.{_≡_, refl, sym, ap, _∙_}
+use borrow.Author.Needs.{needs}
+use Rattle.block.specs.Slots.{has}
+use Rattle.deeds.specs.Deed.{dWord}
+use Rattle.deeds.proofs.Doing.{empty-made}
+use Rattle.deeds.proofs.deed.empty_cuts.Statement.{statement}
+use Rattle.deeds.proofs.deed.empty_cuts.Tie as tie
+
+returns : tie.Need-returns
+returns c =
+    let t = c .before in
+    let h = t .before in
+    let a = h .before .before .args in
+    empty-made (a .b) (a .setting) (sym (t .if1 .taken) ∙ h .has .ensures ∙ ap (has (a .b)) (h .before .d-slot .ensures)) (c .d-word .ensures .0)
+
+returns-2 : tie.Need-returns-2
+returns-2 c =
+    let h = c .before in
+    let a = h .before .before .args in
+    empty-made (a .b) (a .setting) {n = dWord (a .b) 4} (sym (c .if1 .left) ∙ h .has .ensures ∙ ap (has (a .b)) (h .before .d-slot .ensures)) refl
+
+pub empty-cuts-spec : {M : Type 1} → statement M
+empty-cuts-spec = tie.close (tie.spec (λ c κs. search needs) (λ c κs. search needs) (λ c κs. search needs) returns returns-2)
