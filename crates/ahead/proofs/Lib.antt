@@ -1,2 +1,3 @@
 -- The laws of what lies ahead of a block.
+pub mod Others
 pub mod Places

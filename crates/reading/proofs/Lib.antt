@@ -1,2 +1,3 @@
 -- The laws of reading a tape.
 pub mod Going
+pub mod Never
