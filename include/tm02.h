@@ -65,7 +65,7 @@ enum {
 /* The flags: of a feed under G95, of a speed under G96. */
 enum { TM02_FLAG_G95 = 1, TM02_FLAG_G96 = 2 };
 
-/* The alarms. 0 says that the list is complete. */
+/* The alarms. 0 says that the list is complete; 8 is not used. */
 enum {
     TM02_ALARM_BAD_SETTINGS = 1,
     TM02_ALARM_TAPE_TOO_LONG = 2,
@@ -74,7 +74,6 @@ enum {
     TM02_ALARM_BAD_BYTE_OR_NUMBER = 5,
     TM02_ALARM_BAD_LINE_START = 6,
     TM02_ALARM_LINE_TOO_LONG = 7,
-    TM02_ALARM_TOO_MANY_BLOCKS = 8, /* never given: alarm 6 goes before it */
     TM02_ALARM_WORD_RULES = 9,
     TM02_ALARM_PROGRAM_MISSING = 10,
     TM02_ALARM_BLOCK_MISSING = 11,

@@ -1,3 +1,2 @@
 -- The laws of what lies ahead of a block.
-pub mod Others
 pub mod Places

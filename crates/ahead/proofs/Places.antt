@@ -7,6 +7,7 @@ use Prim.Native.Nat.{ℕ, zero, suc, _<_}
 use lib.Dec.{ltb, eqb}
 use lib.ListN.{length}
 use borrow.Author.Tests.{ltb-true}
+use Rattle.alarms.specs.Given.{IsAlarm}
 use Rattle.tape.specs.Lines.{Text, lineAt, linesUp, lines}
 use Rattle.numbers.proofs.Bounds.{cond-ind}
 use Rattle.block.specs.Words.{headOf}
@@ -25,7 +26,6 @@ use Rattle.ahead.specs.Ahead.{mostCalls, calledAt, jumpedTo, lookedUp}
 use Rattle.ahead.specs.declared.Frame.{Frame}
 use Rattle.ahead.specs.declared.Onward.{Onward}
 use Rattle.ahead.specs.declared.Onward.the-variants.{On, Call, Jump, Return, End, Stop}
-use Rattle.ahead.proofs.Others.{IsOther}
 
 -- ---- the lines of a tape stand on it
 abbrev pub AllIn : ℕ → List Text → Type 0
@@ -70,14 +70,14 @@ block-on n tape program = sought-on (OfNumber n) tape (lineAt tape program .afte
 pub first-on : (tape : List ℕ) (p : ℕ) → FoundIn (length tape) (firstBlock (lines tape p))
 first-on tape p = sought-on AnyBlock tape p
 
--- ---- what it asks for: places on the tape, or one of 01's alarms other than 8
+-- ---- what it asks for: places on the tape, or one of 01's alarms
 abbrev pub OnwardOn : ℕ → Onward → Type 0
 OnwardOn n On = Unit {0}
 OnwardOn n (Call p times) = p < n
 OnwardOn n (Jump p) = p < n
 OnwardOn n Return = Unit {0}
 OnwardOn n End = Unit {0}
-OnwardOn n (Stop alarm place) = IsOther alarm
+OnwardOn n (Stop alarm place) = IsAlarm alarm
 
 called-on : (n : ℕ) (f : Found) (r : Frame) (times : ℕ) → FoundIn n f → OnwardOn n (calledAt f r times)
 unfolding calledAt

@@ -1,4 +1,4 @@
--- An alarm is above 0 and has eight bits, whichever it is: both are read off the list of those that are given.
+-- An alarm is above 0, has eight bits and is not 8, whichever it is: all are read off the list of those that are given.
 -- Assumes nothing.
 use mathlib.Core.Path.{_≡_, refl, sym, subst}
 use mathlib.Core.Bool.{Bool, true, false, _&&_, _||_}
@@ -40,3 +40,7 @@ alarm-within n h = one given n all-within h
 
 pub alarm-above : (n : ℕ) → IsAlarm n → n ≡ 0 → ⊥
 alarm-above n h e = omega (arith, alarm-within n h .0, e)
+
+-- 02, of 8: "its number is not used again"
+pub not-eight : IsAlarm 8 → ⊥
+not-eight h = subst T (sym h) tt

@@ -1,4 +1,4 @@
--- 01, "Alarms and their order": the numbers, once.
+-- 01, "Alarms and their order": the numbers, once. 8, "more than 10,000 blocks in a program", is none of them: 02 takes it out, and "its number is not used again".
 use Prim.Native.Nat.{ℕ}
 
 -- "table not 208 numbers, a number out of range, lowest limit above highest, start outside limits, lowest subroutine above 255, main above 6999 or from lowest subroutine to 255"
@@ -28,10 +28,6 @@ badLineStart = 6
 -- "line above 160 bytes, comments counted, line end not (001: alarm 650)"
 abbrev pub lineTooLong : ℕ
 lineTooLong = 7
-
--- "more than 10,000 blocks in a program"
-abbrev pub tooManyBlocks : ℕ
-tooManyBlocks = 8
 
 -- "word rules"
 abbrev pub wordRules : ℕ

@@ -1,5 +1,5 @@
-// The alarms' numbers, once. (01: "Alarms and their order".) Every crate names an alarm by these names, and every definition by those of
-// specs/Numbers.antt.
+// The alarms' numbers, once. (01: "Alarms and their order". 02 takes 8 out, and "its number is not used again".) Every crate names an alarm by these names,
+// and every definition by those of specs/Numbers.antt.
 pub const BAD_SETTINGS: u8 = 1;
 
 pub const TAPE_TOO_LONG: u8 = 2;
@@ -13,8 +13,6 @@ pub const BAD_BYTE_OR_NUMBER: u8 = 5;
 pub const BAD_LINE_START: u8 = 6;
 
 pub const LINE_TOO_LONG: u8 = 7;
-
-pub const TOO_MANY_BLOCKS: u8 = 8;
 
 pub const WORD_RULES: u8 = 9;
 

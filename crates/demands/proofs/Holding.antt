@@ -10,6 +10,7 @@ use lib.Seq.{take-at, drop-at}
 use Rattle.whole.specs.Bytes.{laid}
 use Rattle.whole.proofs.Laying.{laid-nil}
 use Rattle.alarms.specs.Given.{IsAlarm}
+use Rattle.alarms.proofs.Above.{not-eight}
 use Rattle.moves.specs.Form.{headerSize, recordSize, recordStart, recordLimit, roomOf, headerBytes, rowBytes, listBytes, AllFitting, LawfulList}
 use Rattle.moves.specs.Reading.{recordsIn, countIn, listIn, rowIn}
 use Rattle.moves.specs.declared.record.Record.{Record}
@@ -22,17 +23,16 @@ use Rattle.settings.specs.declared.control.Settings.{Settings}
 use Rattle.machine.proofs.Running.{done-few}
 use Rattle.moves.proofs.Room.{room-few, room-fits}
 use Rattle.ahead.specs.Ahead.{mostCalls, onto}
-use Rattle.ahead.proofs.Others.{other-given}
 use Rattle.steps.specs.Steps.{Task, taskOf, Step, blockOn, runAfter}
 use Rattle.steps.specs.declared.step.Run.{Run}
 use Rattle.answers.specs.Answers.{countOf, answerBy, startOf, headed}
-use Rattle.interpreter.specs.Answers.{Result, refused, resultOf, longestTape, interpretation, laidBy}
+use Rattle.interpreter.specs.Answers.{Result, refused, resultOf, longestTape, interpretation, answerOf, laidBy}
 use Rattle.runners.specs.Runs.{recordsOf, programRun}
 use Rattle.answers.specs.declared.Answer.{Answer}
 use Rattle.answers.specs.declared.Answer.the-variants.{Complete, Alarm}
 use Rattle.runners.specs.declared.run.Ending.{Ending}
 use Rattle.runners.specs.declared.run.Ending.the-variants.{Returned, Ended, Stopped}
-use Rattle.demands.specs.Demands.{Front, HoldsAfter, Told, Owed, IsList, DemandOne, DemandTwo}
+use Rattle.demands.specs.Demands.{Front, HoldsAfter, Named, Told, Owed, IsList, DemandOne, DemandTwo}
 use Rattle.demands.specs.Steps.{Linked}
 use Rattle.demands.proofs.Buffers.{AllFit, chain-fits, Form, form}
 use Rattle.demands.proofs.Cycles.{counted}
@@ -116,7 +116,7 @@ told-by : (h : Ending) (n cut size : ℕ) → cut ≤ size → size ≤ longestT
 unfolding answerBy
 told-by Ended n cut size short near on few = record { number = tt; place = omega arith; near = omega arith; count = few }
 told-by (Stopped alarm place) n cut size short near on few =
-    record { number = other-given alarm (on .0); place = omega (arith, short, on .1); near = omega (arith, short, near, on .1); count = few }
+    record { number = on .0; place = omega (arith, short, on .1); near = omega (arith, short, near, on .1); count = few }
 told-by Returned n cut size short near on few = record { number = refl; place = omega arith; near = omega arith; count = few }
 
 -- the count of a complete list
@@ -180,7 +180,7 @@ cut-short end tape = omega (arith, length-take end tape)
 module _ (tape : List ℕ) (table : List ℤ) (set : Settings) (b : List ℕ) where
   shown : Shown (length tape) b (interpretation tape table set (length b))
   shown =
-      every-result (λ _. Shown (length tape) b) tape table set (length b) (λ _ alarm place some on near. none-shown (length tape) b alarm place (other-given alarm some) on near)
+      every-result (λ _. Shown (length tape) b) tape table set (length b) (λ _ alarm place some on near. none-shown (length tape) b alarm place some on near)
       (λ h near k first end p on.
       run-shown (length tape) b h (taskOf (take end tape) table set first (length b)) (cut-short end tape) near refl (k .offsets) (k .range)
       (start-sound (set .x) (set .z) (k .starts .x) (k .starts .z)) p on)
@@ -190,3 +190,7 @@ module _ (tape : List ℕ) (table : List ℤ) (set : Settings) (b : List ℕ) wh
 
   pub demand-two : DemandTwo tape table set b
   demand-two = shown .two
+
+  -- 02: "Show that 8 is never given"
+  pub never-eight : (place count : ℕ) → answerOf tape table set (length b) ≡ Alarm 8 place count → ⊥
+  never-eight place count e = not-eight (subst Named e (demand-one .told .number))

@@ -6,7 +6,6 @@ pub mod Threads
 pub mod Named
 pub mod Linked
 pub mod Results
-pub mod Never
 pub mod Cycles
 pub mod Demands
 pub mod Fits

@@ -8,6 +8,7 @@ use native.Mathlib.Omega.{arith}
 use lib.Dec.{eqb}
 use lib.ListN.{length}
 use borrow.Author.Tests.{eq-eqb, ne-eqb}
+use Rattle.alarms.specs.Given.{IsAlarm}
 use Rattle.alarms.proofs.Above.{alarm-above}
 use Rattle.tape.specs.Lines.{lineAt, textAt, lines}
 use Rattle.finding.specs.declared.Found.{Found}
@@ -21,14 +22,13 @@ use Rattle.ahead.specs.declared.Onward.{Onward}
 use Rattle.ahead.specs.declared.Onward.the-variants.{On, Call, Jump, Return, End, Stop}
 use Rattle.steps.specs.declared.step.StepDone.{StepDone}
 use Rattle.steps.specs.declared.step.Run.{Run}
-use Rattle.ahead.proofs.Others.{IsOther, other-given}
 use Rattle.ahead.proofs.Places.{FoundIn, first-on, OnwardOn}
 use Rattle.steps.proofs.Stepping.{onward-on}
 use Rattle.runners.specs.Runs.{Ran, ran, pre, goBack, andThen, goOn, onward, blocks, enough, repeated, called, entry, programRun}
 use Rattle.runners.specs.declared.run.Ending.{Ending}
 use Rattle.runners.specs.declared.run.Ending.the-variants.{Returned, Ended, Stopped}
 use Rattle.demands.specs.Steps.{Done, Linked}
-use Rattle.demands.proofs.Named.{other-above, block-named}
+use Rattle.demands.proofs.Named.{given-above, block-named}
 
 -- ---- the block at a place
 module _ (t : Task) (g : Frame) (r : Run) where
@@ -74,9 +74,9 @@ unfolding Linked
 linked-append t [] w r q s h k = subst (λ (x : Run). Linked t x w s) (sym h) k
 linked-append t (st ∷ v) w r q s h k = (h .0, linked-append t v w (runAfter t (st .place) r) q s (h .1) k)
 
--- an alarm that stops a run is one of 01's other than 8 and has its place on the tape
+-- an alarm that stops a run is one of 01's and has its place on the tape
 abbrev pub StopsOn : ℕ → Ending → Type 0
-StopsOn n (Stopped alarm place) = IsOther alarm × (place < n)
+StopsOn n (Stopped alarm place) = IsAlarm alarm × (place < n)
 StopsOn n Returned = Unit {0}
 StopsOn n Ended = Unit {0}
 
@@ -124,7 +124,7 @@ module _ (t : Task) (program calls : ℕ) (line : program < length (t .tape)) (c
       leads-pre t (st ∷ []) (andThen (call p n q) (k after)) r q l (leads-then t (call p n q) (k after) q (call-leads p n q goes) (f after))
   went k f Return r q after st none goes l = record { linked = l; stops = tt }
   went k f End r q after st none goes l = record { linked = l; stops = tt }
-  went k f (Stop alarm place) r q after st none goes l = absurd (alarm-above alarm (other-given alarm goes) none)
+  went k f (Stop alarm place) r q after st none goes l = absurd (alarm-above alarm goes none)
 
   -- a refused block is no step
   stopped : (k : ℕ → Run → Ran) (r : Run) (alarm place after : ℕ) (st : Step) → StopsOn (length (t .tape)) (Stopped alarm place)
@@ -152,7 +152,7 @@ module _ (t : Task) (program calls : ℕ) (line : program < length (t .tape)) (c
         (one r (runAfter t at r) this (record { frame = on at; begun = refl; free = e; wrote = records-free t (on at) r e }) refl))
     by-alarm (suc a) e =
         by-done (done-alarm t (on at) r (λ z. omega (arith, e, z)))
-        (stopped k r (alarmAt t (on at) r) at next this (other-above (alarmAt t (on at) r) (block-named t (on at) r) (λ z. omega (arith, e, z)), here))
+        (stopped k r (alarmAt t (on at) r) at next this (given-above (alarmAt t (on at) r) (block-named t (on at) r) (λ z. omega (arith, e, z)), here))
 
   -- ---- a step from a place on
   module _ (k : ℕ → Run → Ran) (f : (p : ℕ) (q : Run) → Leads t q (k p q)) where

@@ -1,14 +1,14 @@
--- Every alarm is one of those that are given, and that of a block is another than 8.
+-- Every alarm is one of those that are given.
 -- Assumes nothing.
 use mathlib.Core.Path.{_≡_, refl, sym, ap, _∙_}
-use mathlib.Core.Bool.{Bool, true, false, cond, not, _&&_, _||_}
+use mathlib.Core.Bool.{Bool, true, false, cond, _&&_, _||_}
 use mathlib.Core.List.{List, _∷_}
 use Prim.Native.Nat.{ℕ, _-_}
-use lib.Dec.{leb, ltb, eqb}
+use lib.Dec.{ltb, eqb}
 use lib.IntN.{ℤ}
 use lib.ListN.{length}
 use borrow.Author.Tests.{ne-eqb}
-use Rattle.alarms.specs.Numbers.{badLineStart, lineTooLong, badByteOrNumber, tooManyBlocks, wordRules, noMotion, notRapid, badFeed, outsideLimits, badLengths, noRoom}
+use Rattle.alarms.specs.Numbers.{badLineStart, lineTooLong, badByteOrNumber, wordRules, noMotion, notRapid, badFeed, outsideLimits, badLengths, noRoom}
 use Rattle.alarms.specs.Given.{given, IsAlarm}
 use Rattle.whole.specs.Among.{among}
 use Rattle.settings.specs.Wrong.{highestProgram}
@@ -18,7 +18,7 @@ use Rattle.rules.specs.declared.judge.Judged.{Judged}
 use Rattle.block.specs.declared.words.Block.{Block}
 use Rattle.block.specs.declared.words.Head.{Head}
 use Rattle.block.specs.declared.words.Head.the-variants.{Blank, ProgramLine, BlockLine, Other}
-use Rattle.reading.specs.Reading.{History, mostBlocks, headAlarm, lineAlarm}
+use Rattle.reading.specs.Reading.{History, headAlarm, lineAlarm}
 use Rattle.state.specs.declared.modal.State.{State}
 use Rattle.asking.specs.Judge.{feedWrong, roomWrong, alarmOf}
 use Rattle.asking.specs.declared.Asked.{Asked}
@@ -30,7 +30,6 @@ use Rattle.ahead.specs.declared.Frame.{Frame}
 use Rattle.ahead.specs.declared.Onward.{Onward}
 use Rattle.ahead.specs.declared.Onward.the-variants.{On, Call, Jump, Return, End, Stop}
 use Rattle.steps.specs.declared.step.Run.{Run}
-use Rattle.ahead.proofs.Others.{IsOther}
 use Rattle.ahead.proofs.Places.{OnwardOn}
 use Rattle.steps.proofs.Stepping.{onward-on}
 
@@ -41,17 +40,10 @@ NoneOrGiven n = among n (0 ∷ given) ≡ true
 pub given-above : (n : ℕ) → NoneOrGiven n → (n ≡ 0 → ⊥) → IsAlarm n
 given-above n h e = ap (λ (t : Bool). t || among n given) (sym (ne-eqb n 0 e)) ∙ h
 
--- 0, or one of these other than 8
-abbrev pub NoneOrOther : ℕ → Type 0
-NoneOrOther n = (eqb n 0 || (among n given && not (eqb n tooManyBlocks))) ≡ true
-
-pub other-above : (n : ℕ) → NoneOrOther n → (n ≡ 0 → ⊥) → IsOther n
-other-above n h e = ap (λ (t : Bool). t || (among n given && not (eqb n tooManyBlocks))) (sym (ne-eqb n 0 e)) ∙ h
-
 -- one of two
-either : (P : ℕ → Type 0) (c : Bool) (m n : ℕ) → P m → P n → P (cond c m n)
-either P true m n h k = h
-either P false m n h k = k
+either : (c : Bool) (m n : ℕ) → NoneOrGiven m → NoneOrGiven n → NoneOrGiven (cond c m n)
+either true m n h k = h
+either false m n h k = k
 
 -- ---- of a line
 judged-by : (c : Bool) (x y : Judged) → NoneOrGiven (x .alarm) → NoneOrGiven (y .alarm) → NoneOrGiven (cond c x y .alarm)
@@ -69,20 +61,16 @@ head-named : (h : History) (k : Head) (broken : Bool) → NoneOrGiven (headAlarm
 unfolding headAlarm
 head-named h Blank broken = refl
 head-named h Other broken = refl
-head-named h (ProgramLine n) broken = either NoneOrGiven (ltb highestProgram n || among n (h .programs)) badLineStart (cond broken wordRules 0) refl (either NoneOrGiven broken wordRules 0 refl refl)
-head-named h (BlockLine n) broken =
-    let last = cond broken wordRules 0 in
-    let full = leb mostBlocks (length (h .blocks)) in
-    either NoneOrGiven (among n (h .blocks)) badLineStart (cond full tooManyBlocks last) refl
-    (either NoneOrGiven full tooManyBlocks last refl (either NoneOrGiven broken wordRules 0 refl refl))
+head-named h (ProgramLine n) broken = either (ltb highestProgram n || among n (h .programs)) badLineStart (cond broken wordRules 0) refl (either broken wordRules 0 refl refl)
+head-named h (BlockLine n) broken = either (among n (h .blocks)) badLineStart (cond broken wordRules 0) refl (either broken wordRules 0 refl refl)
 
 pub line-named : (h : History) (s : List ℕ) → NoneOrGiven (lineAlarm h (judged s))
 unfolding lineAlarm
 line-named h s =
-    let j = judged s in either NoneOrGiven (eqb (j .alarm) 0) (headAlarm h (j .head) (j .broken)) (j .alarm) (head-named h (j .head) (j .broken)) (judged-named s)
+    let j = judged s in either (eqb (j .alarm) 0) (headAlarm h (j .head) (j .broken)) (j .alarm) (head-named h (j .head) (j .broken)) (judged-named s)
 
 -- ---- of a block
-deed-named : (q : Asks) (a : Asked) → NoneOrOther (alarmOf q a)
+deed-named : (q : Asks) (a : Asked) → NoneOrGiven (alarmOf q a)
 unfolding alarmOf
 deed-named q a =
     let room = cond (roomWrong (q .count) a) noRoom 0 in
@@ -90,13 +78,13 @@ deed-named q a =
     let lengths = cond (q .wrong) badLengths ends in
     let feed = cond (feedWrong (q .least) (a .f)) badFeed lengths in
     let late = a .«rapid_due» && q .waits in
-    either NoneOrOther (q .nowhere) noMotion (cond late notRapid feed) refl
-    (either NoneOrOther late notRapid feed refl
-    (either NoneOrOther (feedWrong (q .least) (a .f)) badFeed lengths refl
-    (either NoneOrOther (q .wrong) badLengths ends refl
-    (either NoneOrOther (q .outside) outsideLimits room refl (either NoneOrOther (roomWrong (q .count) a) noRoom 0 refl refl)))))
+    either (q .nowhere) noMotion (cond late notRapid feed) refl
+    (either late notRapid feed refl
+    (either (feedWrong (q .least) (a .f)) badFeed lengths refl
+    (either (q .wrong) badLengths ends refl
+    (either (q .outside) outsideLimits room refl (either (roomWrong (q .count) a) noRoom 0 refl refl)))))
 
-own-named : (table : List ℤ) (set : Settings) (s : State) (b : Block) (left : ℕ) → NoneOrOther (alarmIn table set s b left)
+own-named : (table : List ℤ) (set : Settings) (s : State) (b : Block) (left : ℕ) → NoneOrGiven (alarmIn table set s b left)
 unfolding alarmIn
 own-named table set s b left = deed-named (asksIn table set s b) (askedIn s b left)
 
@@ -104,20 +92,20 @@ or-given : (a b : Bool) → b ≡ true → (a || b) ≡ true
 or-given true b h = refl
 or-given false b h = h
 
-asked-named : (n : ℕ) (w : Onward) → OnwardOn n w → NoneOrOther (alarmBy w)
+asked-named : (n : ℕ) (w : Onward) → OnwardOn n w → NoneOrGiven (alarmBy w)
 unfolding alarmBy
 asked-named n On h = refl
 asked-named n (Call p times) h = refl
 asked-named n (Jump p) h = refl
 asked-named n Return h = refl
 asked-named n End h = refl
-asked-named n (Stop alarm place) h = or-given (eqb alarm 0) (among alarm given && not (eqb alarm tooManyBlocks)) h
+asked-named n (Stop alarm place) h = or-given (eqb alarm 0) (among alarm given) h
 
-pub block-named : (t : Task) (f : Frame) (r : Run) → NoneOrOther (alarmAt t f r)
+pub block-named : (t : Task) (f : Frame) (r : Run) → NoneOrGiven (alarmAt t f r)
 unfolding alarmAt
 block-named t f r =
     let b = blockOn (t .tape) (f .at) in
     let asked = alarmBy (onwardOf t f r) in
     let own = alarmIn (t .table) (t .settings) (r .state) b (t .room - r .count) in
-    either NoneOrOther (eqb asked 0) own asked (own-named (t .table) (t .settings) (r .state) b (t .room - r .count))
+    either (eqb asked 0) own asked (own-named (t .table) (t .settings) (r .state) b (t .room - r .count))
     (asked-named (length (t .tape)) (onwardOf t f r) (onward-on (t .tape) (t .settings) (t .first) f (r .«blocks_left») b))

@@ -22,8 +22,6 @@ use Rattle.reading.specs.declared.read.Read.the-variants as read
 use Rattle.settings.specs.declared.control.Settings.{Settings}
 use Rattle.ahead.specs.Ahead.{mostCalls}
 use Rattle.steps.specs.Steps.{Task, taskOf}
-use Rattle.reading.proofs.Never.{read-never}
-use Rattle.ahead.proofs.Others.{IsOther, is-other}
 use Rattle.ahead.proofs.Places.{AllIn, lines-in, FoundIn, program-on}
 use Rattle.interpreter.specs.Answers.{Result, refused, resultOf, mainBy, mainRun, readThen, longestTape, interpretation}
 use Rattle.answers.specs.Answers.{startOf}
@@ -61,7 +59,7 @@ read-on tape =
 
 -- ---- what comes of every input
 module _ (P : Task → Result → Type 0) (tape : List ℕ) (table : List ℤ) (set : Settings) (bytes : ℕ)
-    (none : (t : Task) (alarm place : ℕ) → IsOther alarm → place ≤ length tape - 1 → place ≤ longestTape → P t (refused alarm place))
+    (none : (t : Task) (alarm place : ℕ) → IsAlarm alarm → place ≤ length tape - 1 → place ≤ longestTape → P t (refused alarm place))
     (some : headerSize ≤ bytes → length tape ≤ longestTape → Right table set → (first end p : ℕ) → let t = taskOf (take end tape) table set first bytes in
     p < length (t .tape) → P t (resultOf (programRun t p mostCalls (startOf set)))) where
   main-is : headerSize ≤ bytes → length tape ≤ longestTape → Right table set → (first end : ℕ) → let t = taskOf (take end tape) table set first bytes in
@@ -70,17 +68,17 @@ module _ (P : Task → Result → Type 0) (tape : List ℕ) (table : List ℤ) (
   main-is h n k first end (At p) on = some h n k first end p on
   main-is h n k first end Nowhere on = none _ _ 0 refl (omega arith) (omega arith)
 
-  read-is : headerSize ≤ bytes → length tape ≤ longestTape → Right table set → (r : Read) → readOf tape ≡ r → AlarmOn (length tape) r → P (readTask tape table set bytes r) (readThen tape table set bytes r)
+  read-is : headerSize ≤ bytes → length tape ≤ longestTape → Right table set → (r : Read) → AlarmOn (length tape) r → P (readTask tape table set bytes r) (readThen tape table set bytes r)
   unfolding readThen mainRun
-  read-is h n k (read.Whole first end) is on = main-is h n k first end (findProgram (set .main) (lines (take end tape) first)) (program-on (set .main) (take end tape) first)
-  read-is h n k (read.Alarm alarm place) is on = none _ alarm place (is-other alarm (on .0) (read-never tape is)) (on .1) (omega (arith, n, on .1))
+  read-is h n k (read.Whole first end) on = main-is h n k first end (findProgram (set .main) (lines (take end tape) first)) (program-on (set .main) (take end tape) first)
+  read-is h n k (read.Alarm alarm place) on = none _ alarm place (on .0) (on .1) (omega (arith, n, on .1))
 
   pub every-result : P (task tape table set bytes) (interpretation tape table set bytes)
   unfolding interpretation
   every-result =
       let t = task tape table set bytes in
-      let first : (alarm : ℕ) → IsOther alarm → P t (refused alarm 0) = λ alarm h. none t alarm 0 h (omega arith) (omega arith) in
+      let first : (alarm : ℕ) → IsAlarm alarm → P t (refused alarm 0) = λ alarm h. none t alarm 0 h (omega arith) (omega arith) in
       by-test (P t) (settingsWrong table set) _ _ (first _ refl) λ settings.
       by-test (P t) (ltb longestTape (length tape)) _ _ (first _ refl) λ short.
       by-test (P t) (ltb bytes headerSize) _ _ (first _ refl) λ long.
-      read-is (ltb-false bytes headerSize long) (ltb-false longestTape (length tape) short) (right table set settings) (readOf tape) refl (read-on tape)
+      read-is (ltb-false bytes headerSize long) (ltb-false longestTape (length tape) short) (right table set settings) (readOf tape) (read-on tape)

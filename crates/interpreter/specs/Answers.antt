@@ -1,5 +1,5 @@
 -- WHAT THE INTERPRETER ANSWERS AND WHAT THE BUFFER HOLDS AFTER IT, for every tape, table, settings and buffer. 01: "1 to 4 in that order; then lines from the front, each 7, 5, 6, 8, 9; then 10 for the
--- main; then blocks as run". "An alarm answers with number, place and records written. Place: .. 0 for 1 to 4 and a missing main; for 1 to 10 (main) the count is 0." "The header is written only
+-- main; then blocks as run". (02 takes 8 out.) "An alarm answers with number, place and records written. Place: .. 0 for 1 to 4 and a missing main; for 1 to 10 (main) the count is 0." "The header is written only
 -- when the run succeeds. Bytes beyond the last record stay."
 use mathlib.Core.Bool.{cond}
 use mathlib.Core.List.{List, []}

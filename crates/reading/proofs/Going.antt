@@ -8,8 +8,8 @@ use native.Mathlib.Omega.{arith}
 use lib.Dec.{T, eqb, eqb→eq}
 use lib.ListN.{length, getD, set, take, drop, replicate, length-set, length-replicate}
 use lib.Seq.{getD-set-same, getD-set-other}
-use borrow.Author.Tests.{eq-eqb, ne-eqb, lt-ltb, le-ltb, le-leb, lt-leb}
-use Rattle.alarms.specs.Numbers.{badLineStart, tooManyBlocks, wordRules}
+use borrow.Author.Tests.{eq-eqb, ne-eqb, lt-ltb, le-ltb}
+use Rattle.alarms.specs.Numbers.{badLineStart, wordRules}
 use Rattle.whole.specs.Among.{among}
 use Rattle.tape.specs.Lines.{lineAt, lines}
 use Rattle.tape.specs.declared.line.Line.{Line}
@@ -26,7 +26,7 @@ use Rattle.reading.specs.Reading.{History, nothingRead, headAlarm, lineA
 abbrev pub whole : List ℕ → ℕ → Read
 whole tape first = readLines first (length tape) nothingRead (lines tape first)
 
-pub record Going (tape : List ℕ) (first : ℕ) (programs : List Bool) (blocks : List ℕ) (mark count p : ℕ) : Type 0 where
+pub record Going (tape : List ℕ) (first : ℕ) (programs : List Bool) (blocks : List ℕ) (mark p : ℕ) : Type 0 where
   pub history : History
   pub same : whole tape first ≡ readLines first (length tape) history (lines tape p)
   pub here : p ≤ length tape
@@ -38,10 +38,9 @@ pub record Going (tape : List ℕ) (first : ℕ) (programs : List Bool) (blocks 
   -- no mark is above that of a program line here, and the present one is no 0
   pub old : (n : ℕ) → getD blocks n 0 ≤ p
   pub present : mark ≤ p + 1
-  pub counted : count ≡ length (history .blocks)
 
 -- ---- the beginning
-pub starts : (tape : List ℕ) (first : ℕ) → first ≤ length tape → Going tape first (replicate 7000 false) (replicate 10000 0) (first + 1) 0 first
+pub starts : (tape : List ℕ) (first : ℕ) → first ≤ length tape → Going tape first (replicate 7000 false) (replicate 10000 0) (first + 1) first
 starts tape first h = record {
   history = nothingRead;
   same = refl;
@@ -52,7 +51,6 @@ starts tape first h = record {
   marks = λ n. ne-eqb (getD (replicate 10000 0) n 0) (first + 1) (λ e. omega (arith, e, zeros 10000 n));
   old = λ n. omega (arith, zeros 10000 n);
   present = omega arith;
-  counted = refl;
 }
   where
     none : (k n : ℕ) → getD (replicate k false) n false ≡ false
@@ -67,7 +65,7 @@ starts tape first h = record {
     zeros (suc k) zero = refl
     zeros (suc k) (suc n) = zeros k n
 
-module _ {tape : List ℕ} {first : ℕ} {programs : List Bool} {blocks : List ℕ} {mark count p : ℕ} (g : Going tape first programs blocks mark count p) where
+module _ {tape : List ℕ} {first : ℕ} {programs : List Bool} {blocks : List ℕ} {mark p : ℕ} (g : Going tape first programs blocks mark p) where
   -- ---- the end of the tape
   pub at-end : length tape ≤ p → whole tape first ≡ Whole first (length tape)
   unfolding readLines
@@ -93,7 +91,7 @@ module _ {tape : List ℕ} {first : ℕ} {programs : List Bool} {blocks : List �
     unfolding by lineAlarm
     refused-itself n = opened ∙ rw (ne-eqb (j .alarm) 0 n, ne-eqb (j .alarm) 0 n)
 
-    -- alarm 6, 8 or 9, and none
+    -- alarm 6 or 9, and none
     module _ (good : j .alarm ≡ 0) (head : Head) (is-head : j .head ≡ head) where
       line-alarm : lineAlarm (g .history) j ≡ headAlarm (g .history) head (j .broken)
       unfolding lineAlarm
@@ -122,7 +120,7 @@ apart a b e z = subst T (sym (eq-eqb a b z) ∙ e) tt
 eqb-refl : (a : ℕ) → eqb a a ≡ true
 eqb-refl a = eq-eqb a a refl
 
-module _ {tape : List ℕ} {first : ℕ} {programs : List Bool} {blocks : List ℕ} {mark count p : ℕ} (g : Going tape first programs blocks mark count p) (n : ℕ) (broken : Bool) where
+module _ {tape : List ℕ} {first : ℕ} {programs : List Bool} {blocks : List ℕ} {mark p : ℕ} (g : Going tape first programs blocks mark p) (n : ℕ) (broken : Bool) where
   pub program-above : 6999 < n → headAlarm (g .history) (ProgramLine n) broken ≡ badLineStart
   unfolding headAlarm
   program-above h = rw (lt-ltb 6999 n h)
@@ -142,17 +140,13 @@ module _ {tape : List ℕ} {first : ℕ} {programs : List Bool} {blocks : List �
   block-first : (getD blocks n 0 ≡ mark → ⊥) → among n (g .history .blocks) ≡ false
   block-first e = sym (g .marks n) ∙ ne-eqb (getD blocks n 0) mark e
 
-  pub block-many : (getD blocks n 0 ≡ mark → ⊥) → 10000 ≤ count → headAlarm (g .history) (BlockLine n) broken ≡ tooManyBlocks
+  pub block-new : (getD blocks n 0 ≡ mark → ⊥) → headAlarm (g .history) (BlockLine n) broken ≡ cond broken wordRules 0
   unfolding headAlarm
-  block-many e h = rw (block-first e, sym (g .counted), le-leb 10000 count h)
-
-  pub block-new : (getD blocks n 0 ≡ mark → ⊥) → count < 10000 → headAlarm (g .history) (BlockLine n) broken ≡ cond broken wordRules 0
-  unfolding headAlarm
-  block-new e h = rw (block-first e, sym (g .counted), lt-leb 10000 count h)
+  block-new e = rw (block-first e)
 
 -- the rest is read from `after` on
-module _ {tape : List ℕ} {first : ℕ} {programs : List Bool} {blocks : List ℕ} {mark count p : ℕ} (g : Going tape first programs blocks mark count p) (after : ℕ) (further : p < after) (within : after ≤ length tape) where
-  pub past-blank : whole tape first ≡ readLines first (length tape) (noted (g .history) Blank) (lines tape after) → Going tape first programs blocks mark count after
+module _ {tape : List ℕ} {first : ℕ} {programs : List Bool} {blocks : List ℕ} {mark p : ℕ} (g : Going tape first programs blocks mark p) (after : ℕ) (further : p < after) (within : after ≤ length tape) where
+  pub past-blank : whole tape first ≡ readLines first (length tape) (noted (g .history) Blank) (lines tape after) → Going tape first programs blocks mark after
   unfolding noted
   past-blank e = record {
     history = g .history;
@@ -164,11 +158,10 @@ module _ {tape : List ℕ} {first : ℕ} {programs : List Bool} {blocks : List �
     marks = g .marks;
     old = λ m. omega (arith, g .old m);
     present = omega (arith, g .present);
-    counted = g .counted;
   }
 
   pub past-program : (n : ℕ) → n ≤ 6999 → whole tape first ≡ readLines first (length tape) (noted (g .history) (ProgramLine n)) (lines tape after)
-      → Going tape first (set programs n true) blocks (p + 1) 0 after
+      → Going tape first (set programs n true) blocks (p + 1) after
   unfolding noted
   past-program n h e = record {
     history = noted (g .history) (ProgramLine n);
@@ -180,7 +173,6 @@ module _ {tape : List ℕ} {first : ℕ} {programs : List Bool} {blocks : List �
     marks = λ m. ne-eqb (getD blocks m 0) (p + 1) (λ z. omega (arith, z, g .old m));
     old = λ m. omega (arith, g .old m);
     present = omega arith;
-    counted = refl;
   }
     where
       flagged : (m : ℕ) (t : Bool) → eqb m n ≡ t → getD (set programs n true) m false ≡ (eqb m n || among m (g .history .programs))
@@ -188,7 +180,7 @@ module _ {tape : List ℕ} {first : ℕ} {programs : List Bool} {blocks : List �
       flagged m false q = rw q (getD-set-other programs n m true false (apart m n q) ∙ g .flags m)
 
   pub past-block : (n : ℕ) → n < 10000 → whole tape first ≡ readLines first (length tape) (noted (g .history) (BlockLine n)) (lines tape after)
-      → Going tape first programs (set blocks n mark) mark (count + 1) after
+      → Going tape first programs (set blocks n mark) mark after
   unfolding noted
   past-block n h e = record {
     history = noted (g .history) (BlockLine n);
@@ -200,7 +192,6 @@ module _ {tape : List ℕ} {first : ℕ} {programs : List Bool} {blocks : List �
     marks = λ m. marked m (eqb m n) refl;
     old = λ m. older m (eqb m n) refl;
     present = omega (arith, g .present);
-    counted = omega (arith, g .counted);
   }
     where
       there : n < length blocks

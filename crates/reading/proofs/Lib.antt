@@ -1,3 +1,2 @@
 -- The laws of reading a tape.
 pub mod Going
-pub mod Never

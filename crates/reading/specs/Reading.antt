@@ -1,11 +1,11 @@
--- 01, "Alarms and their order": "then lines from the front, each 7, 5, 6, 8, 9". Alarm 6: "line starts with another word, program number repeated or above 6999,
--- block number repeated in its program"; alarm 8: "more than 10,000 blocks in a program". "Reading ends after a line whose last word is M30 (001)."
+-- 01, "Alarms and their order": "then lines from the front, each 7, 5, 6, 8, 9". (02 takes 8 out.) Alarm 6: "line starts with another word, program number repeated or above 6999,
+-- block number repeated in its program". "Reading ends after a line whose last word is M30 (001)."
 use mathlib.Core.Bool.{Bool, false, cond, _||_}
 use mathlib.Core.List.{List, [], _∷_}
 use Prim.Native.Nat.{ℕ}
-use lib.Dec.{leb, ltb, eqb}
+use lib.Dec.{ltb, eqb}
 use lib.ListN.{length}
-use Rattle.alarms.specs.Numbers.{noProgram, badLineStart, tooManyBlocks, wordRules}
+use Rattle.alarms.specs.Numbers.{noProgram, badLineStart, wordRules}
 use Rattle.settings.specs.Wrong.{highestProgram}
 use Rattle.whole.specs.Among.{among}
 use Rattle.tape.specs.Lines.{seekFrom, opensTape, Text, lines}
@@ -24,19 +24,14 @@ pub record History : Type 0 where
 abbrev pub nothingRead : History
 nothingRead = record { programs = []; blocks = [] }
 
--- how many blocks a program may have
-abbrev pub mostBlocks : ℕ
-mostBlocks = 10_000
-
--- alarms 6, 8 and 9 of a line, in this order; 0 for none. The last argument: whether the line breaks a word rule
+-- alarms 6 and 9 of a line, in this order; 0 for none. The last argument: whether the line breaks a word rule
 unfoldable pub headAlarm : History → Head → Bool → ℕ
 headAlarm h Blank broken = 0
 headAlarm h Other broken = badLineStart
 headAlarm h (ProgramLine n) broken = cond (ltb highestProgram n || among n (h .programs)) badLineStart (cond broken wordRules 0)
-headAlarm h (BlockLine n) broken =
-    cond (among n (h .blocks)) badLineStart (cond (leb mostBlocks (length (h .blocks))) tooManyBlocks (cond broken wordRules 0))
+headAlarm h (BlockLine n) broken = cond (among n (h .blocks)) badLineStart (cond broken wordRules 0)
 
--- a line's alarm: 7 or 5, which it shows by itself, else 6, 8 or 9, else 0
+-- a line's alarm: 7 or 5, which it shows by itself, else 6 or 9, else 0
 unfoldable pub lineAlarm : History → Judged → ℕ
 lineAlarm h j = cond (eqb (j .alarm) 0) (headAlarm h (j .head) (j .broken)) (j .alarm)
 

@@ -7,8 +7,6 @@ ghost use lib.ListN.{length};
 ghost use Rattle.tape.specs.Lines.{lines};
 ghost use Rattle.reading.specs.Reading.{nothingRead, readLines, readOf};
 
-pub const MOST_BLOCKS: usize = 10_000;
-
 // The place of the first line and the place behind the last line that is read; or an alarm and the first byte of its line (0 where there is no line).
 pub enum Read {
     Whole(usize, usize),
@@ -30,7 +28,6 @@ fn read_lines(tape: &[u8], first: usize) -> Read
     let mut blocks = [0usize; 10000];
     // the mark of a program: the place of its line and one more, so that no two programs have the same, and none has 0
     let mut mark = first + 1;
-    let mut count: usize = 0;
     let mut p = first;
     loop {
         if p >= tape.len() {
@@ -65,7 +62,6 @@ fn read_lines(tape: &[u8], first: usize) -> Read
                 }
                 programs[k] = true;
                 mark = p + 1;
-                count = 0;
                 p = after;
             }
             Head::BlockLine(n) => {
@@ -73,14 +69,10 @@ fn read_lines(tape: &[u8], first: usize) -> Read
                 if blocks[k] == mark {
                     return Read::Alarm(alarms::BAD_LINE_START, p);
                 }
-                if count >= MOST_BLOCKS {
-                    return Read::Alarm(alarms::TOO_MANY_BLOCKS, p);
-                }
                 if judged.broken {
                     return Read::Alarm(alarms::WORD_RULES, p);
                 }
                 blocks[k] = mark;
-                count += 1;
                 if judged.ends {
                     return Read::Whole(first, after);
                 }

@@ -1,5 +1,5 @@
 // What a line shows by itself: alarms 7 and 5, how it begins, and whether it breaks a word rule (alarm 9).
-// (01: "then lines from the front, each 7, 5, 6, 8, 9".)
+// (01: "then lines from the front, each 7, 5, 6, 8, 9". 02 takes 8 out.)
 use block::words::Block;
 use block::words::Head;
 ghost use mathlib.Core.Path.{_≡_};

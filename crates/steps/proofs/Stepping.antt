@@ -42,7 +42,6 @@ use Rattle.steps.specs.declared.step.StepDone.{StepDone}
 use Rattle.ahead.specs.Ahead.{onto, lookedUp}
 use Rattle.steps.specs.Steps.{Task, blockIn, blockOn, onwardBy, onwardOf, alarmBy, alarmAt, runAfter, doneAt, recordsAt, Taken, takenBy, takenFrom}
 use Rattle.steps.specs.Meets.{Fit, Needs, Goes, Wrote, StepMeets, BlockMeets}
-use Rattle.ahead.proofs.Others.{other-given}
 use Rattle.ahead.proofs.Places.{FoundIn, first-on, OnwardOn, looked-on}
 
 -- ---- the words of a line
@@ -84,7 +83,7 @@ goes-of t r s v (Call p times) h e l = (l, omega (arith, h))
 goes-of t r s v (Jump p) h e l = (l, omega (arith, h))
 goes-of t r s v Return h e l = tt
 goes-of t r s v End h e l = tt
-goes-of t r s v (Stop alarm place) h e l = absurd (alarm-above alarm (other-given alarm h) e)
+goes-of t r s v (Stop alarm place) h e l = absurd (alarm-above alarm h e)
 
 module _ (t : Task) (b : List ℕ) (f : Frame) (r : Run) (n : Needs t (length b) f r) where
   abbrev w : Onward

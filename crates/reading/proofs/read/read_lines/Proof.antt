@@ -14,15 +14,15 @@ use Rattle.block.proofs.Heads.{HeadIn}
 use Rattle.rules.proofs.Heads.{judged-in}
 use Rattle.reading.specs.declared.read.Read.the-variants.{Alarm}
 use Rattle.reading.specs.Reading.{headAlarm, noted, endsWith, readLines}
-use Rattle.reading.proofs.Going.{Going, whole, starts, at-end, refused-itself, refused, ended, onward, program-above, program-repeated, program-new, block-repeated, block-many, block-new, past-blank, past-program, past-block, blank-none, other-start, blank-on, program-on, block-ends}
+use Rattle.reading.proofs.Going.{Going, whole, starts, at-end, refused-itself, refused, ended, onward, program-above, program-repeated, program-new, block-repeated, block-new, past-blank, past-program, past-block, blank-none, other-start, blank-on, program-on, block-ends}
 use Rattle.reading.proofs.read.read_lines.Statement.{statement}
 use Rattle.reading.proofs.read.read_lines.Tie as tie
 
 abbrev Inv-loop : tie.InvT-loop
-Inv-loop tape first programs₀ blocks₀ mark₀ count₀ p₀ programs blocks mark count p = Going tape first programs blocks mark count p
+Inv-loop tape first programs₀ blocks₀ mark₀ p₀ programs blocks mark p = Going tape first programs blocks mark p
 
 abbrev μ-loop : tie.MeasureT-loop
-μ-loop tape first programs₀ blocks₀ mark₀ count₀ p₀ programs blocks mark count p = length tape - p
+μ-loop tape first programs₀ blocks₀ mark₀ p₀ programs blocks mark p = length tape - p
 
 -- a line that was judged, and shows neither 7 nor 5
 module _ (e : tie.Else2 Inv-loop μ-loop) where
@@ -148,7 +148,7 @@ loop-again-2 c =
     let g = l .loop .inv in
     let n = h .head .given .0 .0 in
     let after = e .before .before .before .line-at .result .after in
-    subst (λ (m : ℕ). Going (l .before .before .args .tape .now) (l .before .before .args .first) (set (l .loop .programs) m true) (l .loop .blocks) (l .loop .p + 1) 0 after) (sym (w .wide .ensures))
+    subst (λ (m : ℕ). Going (l .before .before .args .tape .now) (l .before .before .args .first) (set (l .loop .programs) m true) (l .loop .blocks) (l .loop .p + 1) after) (sym (w .wide .ensures))
     (past-program g after (further e) (within e) n (w .before .if3 .left)
     (onward-as e (ProgramLine n) (h .head .given .1)
     (program-new g n (e .before .judge-line .result .broken) (w .before .if3 .left) (flag-of w (c .before .if4 .left)) ∙ ap (λ (t : Bool). cond t wordRules 0) (c .if5 .left))
@@ -194,8 +194,15 @@ returns-8 c =
     let l = e .before .before .before .before .before in
     let g = l .loop .inv in
     let n = h .head2 .given .0 .0 in
-    refused-as e (BlockLine n) (h .head2 .given .1) 7
-    (block-many g n (e .before .judge-line .result .broken) (mark-of w (λ x. x ≡ l .loop .mark → ⊥) (c .before .if6 .left)) (c .if7 .taken))
+    refused-as e (BlockLine n) (h .head2 .given .1) 8
+    (block-new g n (e .before .judge-line .result .broken) (mark-of w (λ x. x ≡ l .loop .mark → ⊥) (c .before .if6 .left))
+    ∙ ap (λ (t : Bool). cond t wordRules 0) (c .if7 .taken))
+
+mul-blocks : tie.Need-mul-blocks Inv-loop μ-loop
+mul-blocks c = omega (arith, index (c .before .before))
+
+array-write-blocks : tie.Need-array-write-blocks Inv-loop μ-loop
+array-write-blocks c = index (c .before .before)
 
 returns-9 : tie.Need-returns-9 Inv-loop μ-loop
 returns-9 c =
@@ -205,52 +212,31 @@ returns-9 c =
     let l = e .before .before .before .before .before in
     let g = l .loop .inv in
     let n = h .head2 .given .0 .0 in
-    refused-as e (BlockLine n) (h .head2 .given .1) 8
-    (block-new g n (e .before .judge-line .result .broken) (mark-of w (λ x. x ≡ l .loop .mark → ⊥) (c .before .before .if6 .left)) (c .before .if7 .left)
-    ∙ ap (λ (t : Bool). cond t wordRules 0) (c .if8 .taken))
-
-mul-blocks : tie.Need-mul-blocks Inv-loop μ-loop
-mul-blocks c = omega (arith, index (c .before .before .before))
-
-array-write-blocks : tie.Need-array-write-blocks Inv-loop μ-loop
-array-write-blocks c = index (c .before .before .before)
-
-add-count : tie.Need-add-count Inv-loop μ-loop
-add-count c = omega arith
-
-returns-10 : tie.Need-returns-10 Inv-loop μ-loop
-returns-10 c =
-    let w = c .before .before .before .before in
-    let h = w .before .before in
-    let e = h .before .before in
-    let l = e .before .before .before .before .before in
-    let g = l .loop .inv in
-    let n = h .head2 .given .0 .0 in
     let k = e .before in
     let m = k .before .before in
     sym (ended g (m .before .if1 .left) (m .line-at .result) (m .line-at .ensures .0) (k .judge-line .result) (k .judge-line .ensures) (e .if2 .left) (BlockLine n) (h .head2 .given .1)
-    (block-new g n (k .judge-line .result .broken) (mark-of w (λ x. x ≡ l .loop .mark → ⊥) (c .before .before .before .if6 .left)) (c .before .before .if7 .left)
-    ∙ ap (λ (t : Bool). cond t wordRules 0) (c .before .if8 .left))
-    (block-ends n (k .judge-line .result .ends) ∙ c .if9 .taken))
+    (block-new g n (k .judge-line .result .broken) (mark-of w (λ x. x ≡ l .loop .mark → ⊥) (c .before .before .if6 .left))
+    ∙ ap (λ (t : Bool). cond t wordRules 0) (c .before .if7 .left))
+    (block-ends n (k .judge-line .result .ends) ∙ c .if8 .taken))
 
 loop-less-3 : tie.Need-loop-less-3 Inv-loop μ-loop
-loop-less-3 c = let e = c .before .before .before .before .before .before .before .before in omega (arith, further e, within e)
+loop-less-3 c = let e = c .before .before .before .before .before .before .before in omega (arith, further e, within e)
 
 loop-again-3 : tie.Need-loop-again-3 Inv-loop μ-loop
 loop-again-3 c =
-    let w = c .before .before .before .before in
+    let w = c .before .before .before in
     let h = w .before .before in
     let e = h .before .before in
     let l = e .before .before .before .before .before in
     let g = l .loop .inv in
     let n = h .head2 .given .0 .0 in
     let after = e .before .before .before .line-at .result .after in
-    subst (λ (m : ℕ). Going (l .before .before .args .tape .now) (l .before .before .args .first) (l .loop .programs) (set (l .loop .blocks) m (l .loop .mark)) (l .loop .mark) (l .loop .count + 1) after) (sym (w .wide2 .ensures))
+    subst (λ (m : ℕ). Going (l .before .before .args .tape .now) (l .before .before .args .first) (l .loop .programs) (set (l .loop .blocks) m (l .loop .mark)) (l .loop .mark) after) (sym (w .wide2 .ensures))
     (past-block g after (further e) (within e) n (small w)
     (onward-as e (BlockLine n) (h .head2 .given .1)
-    (block-new g n (e .before .judge-line .result .broken) (mark-of w (λ x. x ≡ l .loop .mark → ⊥) (c .before .before .before .if6 .left)) (c .before .before .if7 .left)
-    ∙ ap (λ (t : Bool). cond t wordRules 0) (c .before .if8 .left))
-    (block-ends n (e .before .judge-line .result .ends) ∙ c .if9 .left)))
+    (block-new g n (e .before .judge-line .result .broken) (mark-of w (λ x. x ≡ l .loop .mark → ⊥) (c .before .before .if6 .left))
+    ∙ ap (λ (t : Bool). cond t wordRules 0) (c .before .if7 .left))
+    (block-ends n (e .before .judge-line .result .ends) ∙ c .if8 .left)))
 
 pub read-lines-spec : {M : Type 1} → statement M
 read-lines-spec =
@@ -288,10 +274,8 @@ read-lines-spec =
     array-read-if6
     returns-7
     returns-8
-    returns-9
     mul-blocks
     array-write-blocks
-    add-count
-    returns-10
+    returns-9
     loop-less-3
     loop-again-3)
