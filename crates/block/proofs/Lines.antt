@@ -1,11 +1,12 @@
 -- Laws of a line's words: how the next word carries the block on, and how a line begins.
 -- Assumes nothing.
-use mathlib.Core.Path.{_≡_, refl, ap, _∙_}
+use mathlib.Core.Path.{_≡_, refl, sym, ap, _∙_}
 use mathlib.Core.Bool.{Bool, true, false, cond}
 use mathlib.Core.List.{List}
 use Prim.Native.Nat.{ℕ, _+_, _≤_}
 use native.Mathlib.Omega.{arith}
-use lib.ListN.{length}
+use lib.IntN.{ℤ}
+use lib.ListN.{length, set}
 use Rattle.addresses.specs.Words.{faulty, onward, nextWord, wordsFrom}
 use Rattle.addresses.specs.declared.Word.{Word}
 use Rattle.addresses.specs.declared.NextWord.{NextWord}
@@ -14,7 +15,7 @@ use Rattle.addresses.proofs.Wording.{words-more}
 use Rattle.block.specs.declared.words.Block.{Block}
 use Rattle.block.specs.declared.words.Slot.{Slot}
 use Rattle.block.specs.declared.words.Slot.the-variants.{At, Late, Unknown}
-use Rattle.block.specs.Words.{slotOf, noWords, putIn, putWord, isProgramAddress, faultyRest, gather}
+use Rattle.block.specs.Words.{slotOf, noWords, isEnd, putIn, putWord, isProgramAddress, faultyRest, gather}
 
 -- no words are no more than any number
 pub none : {n : ℕ} → noWords .words ≤ n
@@ -30,6 +31,20 @@ put-in Unknown b w = refl
 pub put-words : (b : Block) (w : Word) → putWord b w .words ≡ b .words + 1
 unfolding putWord
 put-words b w = put-in (slotOf w) b w
+
+-- a word whose slot is known
+pub put-by : (b : Block) (w : Word) {k : Slot} → slotOf w ≡ k → putIn k b w ≡ putWord b w
+unfolding putWord
+put-by b w e = ap (λ (k : Slot). putIn k b w) (sym e)
+
+-- what the stores leave, with the slot's word as it came
+pub stored : (b : Block) (w : Word) (k : ℕ) {v : ℤ} {t : Bool} → v ≡ w .value → t ≡ isEnd w
+    → record { value = set (b .value) k v; place = set (b .place) k (b .words + 1); words = b .words + 1; late = b .late; unknown = b .unknown; ends = t } ≡ putIn (At k) b w
+stored b w k e f i = record { value = set (b .value) k (e i); place = set (b .place) k (b .words + 1); words = b .words + 1; late = b .late; unknown = b .unknown; ends = f i }
+
+pub noted : (b : Block) (w : Word) {t : Bool} (l u : Bool) → t ≡ isEnd w
+    → _≡_ {A = Block} (record { value = b .value; place = b .place; words = b .words + 1; late = l; unknown = u; ends = t }) (record { value = b .value; place = b .place; words = b .words + 1; late = l; unknown = u; ends = isEnd w })
+noted b w l u f i = record { value = b .value; place = b .place; words = b .words + 1; late = l; unknown = u; ends = f i }
 
 -- the words of the line s from i on, by the next of them
 module _ (s : List ℕ) (i : ℕ) (h : i ≤ length s) (b : Block) where

@@ -9,7 +9,7 @@ ghost use lib.ListN.{length};
 ghost use Rattle.addresses.specs.Words.{wordsFrom};
 ghost use Rattle.codes.specs.Codes.{gCode, mCode};
 ghost use Rattle.block.specs.Slots.{slots, mSlot, dSlot, gSlot, has, codeIn, gIn, mIn};
-ghost use Rattle.block.specs.Words.{longestLine, SlotIn, codeSlot, slotOf, noWords, isEnd, putWord, isProgramAddress, faultyRest, gather, headBy, headOf, lineOf};
+ghost use Rattle.block.specs.Words.{longestLine, SlotIn, codeSlot, slotOf, noWords, isEnd, isProgramAddress, faultyRest, gather, headBy, headOf, lineOf};
 
 // The slots of a block's words, and how many there are: X Z U W F S T, the groups of M, P and D by their indexes, L, and the groups of G.
 pub const SLOTS: usize = 40;
@@ -228,35 +228,6 @@ fn is_end(w: Word) -> bool
     false
 }
 
-// The block with one word more: the last word of a slot is the one that applies.
-fn put_word(b: Block, w: Word) -> Block
-    requires { ⌜ (b .words < 255) × (w .index < 10) ⌝ }
-    ensures { λ r. ⌜ r ≡ putWord b w ⌝ }
-{
-    let slot = slot_of(w);
-    let value = w.value;
-    let ends = is_end(w);
-    let mut b = b;
-    let n = b.words + 1;
-    b.words = n;
-    b.ends = ends;
-    match slot {
-        Slot::At(k) => {
-            b.value[k] = value;
-            b.place[k] = n;
-            b
-        }
-        Slot::Late => {
-            b.late = true;
-            b
-        }
-        Slot::Unknown => {
-            b.unknown = true;
-            b
-        }
-    }
-}
-
 // Whether an address is that of a program number.
 fn is_program_address(address: u8) -> bool
     ensures { λ r. ⌜ r ≡ isProgramAddress address ⌝ }
@@ -273,7 +244,8 @@ fn faulty_rest() -> Rest
     }
 }
 
-// The words of a line from `from` on, in one block. A line that is not too long has no more words than a byte can count.
+// The words of a line from `from` on, each put into the block where it belongs: the last word of a slot is the one that applies. A line that is not too long has no more words
+// than a byte can count.
 fn read_rest(line: &[u8], from: usize) -> Rest
     requires { ⌜ (from ≤ length (now line)) × (length (now line) ≤ longestLine) ⌝ }
     ensures { λ r. ⌜ r ≡ gather noWords (wordsFrom (now (line .entry)) from) ⌝ }
@@ -283,9 +255,7 @@ fn read_rest(line: &[u8], from: usize) -> Rest
     loop {
         let next = addresses::next_word(line, i);
         match next {
-            NextWord::Fault => {
-                return faulty_rest();
-            }
+            NextWord::Fault => return faulty_rest(),
             NextWord::End => {
                 return Rest {
                     block: b,
@@ -296,8 +266,21 @@ fn read_rest(line: &[u8], from: usize) -> Rest
                 if is_program_address(w.address) {
                     return faulty_rest();
                 }
-                b = put_word(b, w);
+                let slot = slot_of(w);
+                let value = w.value;
+                let ends = is_end(w);
+                let n = b.words + 1;
                 i = end;
+                b.words = n;
+                b.ends = ends;
+                match slot {
+                    Slot::At(k) => {
+                        b.value[k] = value;
+                        b.place[k] = n;
+                    }
+                    Slot::Late => b.late = true,
+                    Slot::Unknown => b.unknown = true,
+                }
             }
         }
     }
