@@ -1,7 +1,7 @@
 -- The laws of the number reader: `digitsOf` along a list, in the form that the loop's invariant takes, and each way out of a number.
 -- Assumes nothing.
 use mathlib.Core.Path.{_≡_, refl, sym, ap, _∙_}
-use mathlib.Core.Bool.{Bool, true, false, cond, _&&_}
+use mathlib.Core.Bool.{Bool, true, false, cond, _&&_, _||_}
 use mathlib.Core.List.{List, [], _∷_}
 use Prim.Native.Nat.{ℕ, zero, suc, _+_, _*_, _-_, _^_, _<_, _≤_}
 use native.Mathlib.Nat.{add-zero, sub-zero, pow-suc, pow-le-pow-right, mul-lt-mul-of-pos-right, one-le-pow}
@@ -18,7 +18,7 @@ use mir.Val.{SFits}
 use Rattle.letters.specs.Letters.{plusSign, minusSign, point, digitZero, digitNine}
 use Rattle.numbers.specs.declared.Digits.{Digits}
 use Rattle.numbers.specs.declared.Number.the-variants.{Value, Bad}
-use Rattle.numbers.specs.Numbers.{isDigit, digitsOf, Run, withSign, millimetres, behindDigits, unsignedPath, pathOf, allDigits, digitsIn}
+use Rattle.numbers.specs.Numbers.{isDigit, digitsOf, Run, withSign, millimetres, behindDigits, unsignedPath, signSize, pathOf, allDigits, digitsIn}
 
 -- ---- a byte as a digit
 pub low-no : (b : ℕ) → b < digitZero → isDigit b ≡ false
@@ -135,12 +135,24 @@ unfolding pathOf
 path-empty [] e = refl
 path-empty (b ∷ s) e = absurd (omega (arith, e))
 
-pub path-first : (s : List ℕ) → 0 < length s
-    → pathOf s
-    ≡ cond (eqb (getD s 0 0) minusSign) (unsignedPath true (drop 1 s)) (cond (eqb (getD s 0 0) plusSign) (unsignedPath false (drop 1 s)) (unsignedPath false s))
-unfolding pathOf
-path-first [] h = absurd (omega (arith, h))
-path-first (b ∷ s) h = refl
+-- the sign's size is at most that of the part
+pub sign-fits : (s : List ℕ) → 0 < length s → signSize (getD s 0 0) ≤ length s
+unfolding signSize
+sign-fits s h = go (eqb (getD s 0 0) minusSign || eqb (getD s 0 0) plusSign)
+  where
+    go : (t : Bool) → cond t 1 0 ≤ length s
+    go true = omega (arith, h)
+    go false = omega arith
+
+pub path-signed : (s : List ℕ) → 0 < length s → unsignedPath (eqb (getD s 0 0) minusSign) (drop (signSize (getD s 0 0)) s) ≡ pathOf s
+unfolding pathOf signSize
+path-signed [] h = absurd (omega (arith, h))
+path-signed (b ∷ s) h = go (eqb b minusSign) (eqb b plusSign)
+  where
+    go : (m p : Bool) → unsignedPath m (drop (cond (m || p) 1 0) (b ∷ s)) ≡ cond m (unsignedPath true s) (cond p (unsignedPath false s) (unsignedPath false (b ∷ s)))
+    go true p = refl
+    go false true = refl
+    go false false = refl
 
 -- ---- digits and nothing else
 module _ (limit most : ℕ) (s : List ℕ) (d : Digits) (r : Run s 0 limit d) where

@@ -2,7 +2,7 @@
 -- 3 digits, with at least one digit, meaning millimetres. .. Other numbers are unsigned digits: G and M at most 2, F S T at most 4, L and D at most 5, D at
 -- most 32,767." Program and block numbers: "1 to 4 digits".
 use mathlib.Core.Path.{_≡_}
-use mathlib.Core.Bool.{Bool, true, false, cond, _&&_}
+use mathlib.Core.Bool.{Bool, true, false, cond, _&&_, _||_}
 use mathlib.Core.List.{List, [], _∷_}
 use Prim.Native.Nat.{ℕ, zero, suc, _+_, _*_, _-_, _^_, _≤_, _<_}
 use lib.Dec.{leb, ltb, eqb}
@@ -51,6 +51,10 @@ behindDigits negative d (b ∷ s) = cond (eqb b point && leb (d .count) 4) (mill
 -- a path number behind its sign
 unfoldable pub unsignedPath : Bool → List ℕ → Number
 unsignedPath negative s = behindDigits negative (digitsOf 7 s 0 0) (drop (digitsOf 7 s 0 0 .count) s)
+
+-- how many bytes the sign takes, by the first byte of a number
+unfoldable pub signSize : ℕ → ℕ
+signSize b = cond (eqb b minusSign || eqb b plusSign) 1 0
 
 -- "a sign or none, then .."
 unfoldable pub pathOf : List ℕ → Number

@@ -3,7 +3,7 @@
 ghost use mathlib.Core.Path.{_≡_};
 ghost use Prim.Native.Nat.{_-_, _^_, _≤_, _<_};
 ghost use lib.ListN.{length, drop};
-ghost use Rattle.numbers.specs.Numbers.{Run, withSign, unsignedPath, pathOf, digitsIn, numberOf};
+ghost use Rattle.numbers.specs.Numbers.{Run, withSign, unsignedPath, signSize, pathOf, digitsIn, numberOf};
 
 // The forms of numbers: a path's (X Z U W P); digits alone, two (G M), four (N F S T and program numbers) or five (L); and D's.
 pub enum NumberForm {
@@ -114,6 +114,16 @@ fn read_unsigned_path(part: &[u8], at: usize, negative: bool) -> Number
     )
 }
 
+// How many bytes the sign takes, by a number's first byte.
+fn sign_size(b: u8) -> usize
+    ensures { λ r. ⌜ r ≡ signSize b ⌝ }
+{
+    if (b == b'-') | (b == b'+') {
+        return 1;
+    }
+    0
+}
+
 fn read_path(part: &[u8]) -> Number
     ensures { λ r. ⌜ r ≡ pathOf (now (part .entry)) ⌝ }
 {
@@ -121,13 +131,8 @@ fn read_path(part: &[u8]) -> Number
         return Number::Bad;
     }
     let b = part[0];
-    if b == b'-' {
-        return read_unsigned_path(part, 1, true);
-    }
-    if b == b'+' {
-        return read_unsigned_path(part, 1, false);
-    }
-    read_unsigned_path(part, 0, false)
+    let at = sign_size(b);
+    read_unsigned_path(part, at, b == b'-')
 }
 
 // Unsigned digits, 1 to `limit` of them, of a value at most `most`.
