@@ -18,12 +18,14 @@ use Rattle.numbers.proofs.Bounds.{Read, cond-ind, WithinForm, number-read}
 use Rattle.tape.specs.declared.line.Gap.{Gap}
 use Rattle.tape.specs.declared.line.Gap.the-variants as gap
 use Rattle.tape.specs.Lines.{seekFrom, gapOf}
+use Rattle.addresses.specs.declared.Index.{Index}
+use Rattle.addresses.specs.declared.Index.the-variants as index
 use Rattle.addresses.specs.declared.Address.{Address}
 use Rattle.addresses.specs.declared.Address.the-variants.{Known, Unknown}
 use Rattle.addresses.specs.declared.NextWord.{NextWord}
 use Rattle.addresses.specs.declared.NextWord.the-variants.{Word, End, Fault}
 use Rattle.addresses.specs.declared.Word as w
-use Rattle.addresses.specs.Words.{capital, endsNumber, formOf, wordBy, numberWord, indexedWord, addressed, wordAt, behindGap, nextWord}
+use Rattle.addresses.specs.Words.{capital, endsNumber, formOf, wordBy, numberWord, behindIndex, indexedWord, addressed, wordAt, behindGap, nextWord}
 
 -- the numbers that an address takes
 abbrev pub Within : Address → ℤ → Type 0
@@ -59,14 +61,16 @@ digit-index b t e = go (leb digitZero b) (leb b digitNine) t refl refl e
 indexed-word : (s : List ℕ) (a : ℕ) (k : NumberForm) (from end : ℕ) → formOf a ≡ Known k → NextWithin (indexedWord s a k from end)
 unfolding indexedWord
 indexed-word s a k from end e =
-    cond-ind NextWithin (ltb (end - from) 2) Fault _ (λ _. tt)
-    (cond-ind NextWithin (isDigit (getD s from 0) && eqb (getD s (from + 1) 0) equals) _ Fault
-    (λ d. number-word s a (getD s from 0 - digitZero) k (from + 2) end e (digit-index (getD s from 0) (eqb (getD s (from + 1) 0) equals) d)) tt)
+    let P : Index → Type 0 = λ x. NextWithin (behindIndex s a k x end) in
+    cond-ind P (eqb a letterP || eqb a letterD) _ (index.At 0 from)
+    (λ _. cond-ind P (ltb (end - from) 2) index.Bad _ (λ _. tt)
+    (cond-ind P (isDigit (getD s from 0) && eqb (getD s (from + 1) 0) equals) _ index.Bad
+    (λ d. number-word s a (getD s from 0 - digitZero) k (from + 2) end e (digit-index (getD s from 0) (eqb (getD s (from + 1) 0) equals) d)) tt))
+    (number-word s a 0 k from end e (omega arith))
 
 by-address : (s : List ℕ) (a : ℕ) (t : Address) (from end : ℕ) → formOf a ≡ t → NextWithin (addressed s a t from end)
 by-address s a Unknown from end e = tt
-by-address s a (Known k) from end e =
-    cond-ind NextWithin (eqb a letterP || eqb a letterD) _ _ (λ _. indexed-word s a k from end e) (number-word s a 0 k from end e (omega arith))
+by-address s a (Known k) from end e = indexed-word s a k from end e
 
 behind : (s : List ℕ) (g : Gap) → NextWithin (behindGap g (λ p. cond (ltb p (length s)) (wordAt s p) End))
 unfolding wordAt

@@ -20,11 +20,13 @@ use Rattle.tape.specs.declared.line.Gap.the-variants as gap
 use Rattle.tape.specs.Lines.{seekFrom, gapOf, GapIn}
 use Rattle.tape.proofs.Lining.{gap-in}
 use Rattle.tape.proofs.Scanning.{scan-within}
+use Rattle.addresses.specs.declared.Index.{Index}
+use Rattle.addresses.specs.declared.Index.the-variants as index
 use Rattle.addresses.specs.declared.Address.{Address}
 use Rattle.addresses.specs.declared.Address.the-variants.{Known, Unknown}
 use Rattle.addresses.specs.declared.NextWord.{NextWord}
 use Rattle.addresses.specs.declared.NextWord.the-variants.{Word, End, Fault}
-use Rattle.addresses.specs.Words.{capital, endsNumber, formOf, wordBy, numberWord, indexedWord, addressed, wordAt, behindGap, nextWord, NextIn, Words, word, onward, wordsUp, wordsFrom}
+use Rattle.addresses.specs.Words.{capital, endsNumber, formOf, wordBy, numberWord, indexOf, behindIndex, indexedWord, addressed, wordAt, behindGap, nextWord, NextIn, Words, word, onward, wordsUp, wordsFrom}
 use Rattle.addresses.proofs.Ranges.{each, Outside, within-but}
 
 -- the answers of `formOf` as numbers, by which they are compared
@@ -70,21 +72,26 @@ module _ (s : List ℕ) (p end : ℕ) (l : p < end) (h : end ≤ length s) where
 
   indexed-in : (a : ℕ) (k : NumberForm) (from : ℕ) → NextIn (indexedWord s a k from end) p (length s)
   unfolding indexedWord
-  indexed-in a k from =
-      go (ltb (end - from) 2) (isDigit (getD s from 0) && eqb (getD s (from + 1) 0) equals)
+  indexed-in a k from = go (indexOf s a from end)
     where
-      go : (t u : Bool) → NextIn (cond t Fault (cond u (numberWord s a (getD s from 0 - digitZero) k (from + 2) end) Fault)) p (length s)
-      go true u = tt
-      go false true = number-in a (getD s from 0 - digitZero) k (from + 2)
-      go false false = tt
+      go : (x : Index) → NextIn (behindIndex s a k x end) p (length s)
+      go (index.At i number) = number-in a i k number
+      go index.Bad = tt
 
   addressed-in : (a : ℕ) (x : Address) (from : ℕ) → NextIn (addressed s a x from end) p (length s)
   addressed-in a Unknown from = tt
-  addressed-in a (Known k) from = go (eqb a letterP || eqb a letterD)
-    where
-      go : (t : Bool) → NextIn (cond t (indexedWord s a k from end) (numberWord s a 0 k from end)) p (length s)
-      go true = indexed-in a k from
-      go false = number-in a 0 k from
+  addressed-in a (Known k) from = indexed-in a k from
+
+-- a word by its index, and that there is none without one
+module _ (s : List ℕ) (a from end : ℕ) {x : Index} (e : x ≡ indexOf s a from end) where
+  pub by-index : (k : NumberForm) {i number : ℕ} → x ≡ index.At i number → numberWord s a i k number end ≡ indexedWord s a k from end
+  unfolding indexedWord
+  by-index k h = ap (λ (y : Index). behindIndex s a k y end) (sym h ∙ e)
+
+  pub no-index : (y : Address) → x ≡ index.Bad → Fault ≡ addressed s a y from end
+  unfolding indexedWord
+  no-index Unknown h = refl
+  no-index (Known k) h = ap (λ (y : Index). behindIndex s a k y end) (sym h ∙ e)
 
 pub word-in : (s : List ℕ) (p : ℕ) → p < length s → NextIn (wordAt s p) p (length s)
 unfolding wordAt

@@ -17,6 +17,8 @@ use Rattle.tape.specs.declared.line.Gap.the-variants as gap
 use Rattle.tape.specs.Lines.{seekFrom, gapOf}
 use Rattle.addresses.specs.declared.NextWord.{NextWord}
 use Rattle.addresses.specs.declared.NextWord.the-variants.{Word, End, Fault}
+use Rattle.addresses.specs.declared.Index.{Index}
+use Rattle.addresses.specs.declared.Index.the-variants as index
 use Rattle.addresses.specs.declared.Address.{Address}
 use Rattle.addresses.specs.declared.Address.the-variants.{Known, Unknown}
 
@@ -46,15 +48,30 @@ wordBy a i (Value v p) end = Word (record { address = a; index = i; value = v; p
 unfoldable pub numberWord : List ℕ → ℕ → ℕ → NumberForm → ℕ → ℕ → NextWord
 numberWord s a i form from end = wordBy a i (numberOf form (take (end - from) (drop from s))) end
 
--- "P and D carry an index digit and `=`"
+-- "P and D carry an index digit and `=`": the index of a word whose number part ends at `end`, and where its number begins. Another address has none, which counts as 0
+abbrev pub indexOf : List ℕ → ℕ → ℕ → ℕ → Index
+indexOf s a from end =
+    cond (eqb a letterP || eqb a letterD)
+    (cond (ltb (end - from) 2) index.Bad
+    (cond (isDigit (getD s from 0) && eqb (getD s (from + 1) 0) equals) (index.At (getD s from 0 - digitZero) (from + 2)) index.Bad))
+    (index.At 0 from)
+
+-- the number begins within the word
+abbrev pub IndexIn : Index → ℕ → Type 0
+IndexIn (index.At i from) end = from ≤ end
+IndexIn index.Bad end = Unit {0}
+
+abbrev pub behindIndex : List ℕ → ℕ → NumberForm → Index → ℕ → NextWord
+behindIndex s a form (index.At i from) end = numberWord s a i form from end
+behindIndex s a form index.Bad end = Fault
+
+-- the word of an address that takes a form of number
 unfoldable pub indexedWord : List ℕ → ℕ → NumberForm → ℕ → ℕ → NextWord
-indexedWord s a form from end =
-    cond (ltb (end - from) 2) Fault
-    (cond (isDigit (getD s from 0) && eqb (getD s (from + 1) 0) equals) (numberWord s a (getD s from 0 - digitZero) form (from + 2) end) Fault)
+indexedWord s a form from end = behindIndex s a form (indexOf s a from end) end
 
 abbrev pub addressed : List ℕ → ℕ → Address → ℕ → ℕ → NextWord
 addressed s a Unknown from end = Fault
-addressed s a (Known form) from end = cond (eqb a letterP || eqb a letterD) (indexedWord s a form from end) (numberWord s a 0 form from end)
+addressed s a (Known form) from end = indexedWord s a form from end
 
 -- the word whose address stands at p
 unfoldable pub wordAt : List ℕ → ℕ → NextWord

@@ -7,7 +7,7 @@ ghost use mathlib.Core.Path.{_≡_};
 ghost use Prim.Native.Nat.{_≤_, _<_};
 ghost use lib.ListN.{length};
 ghost use Rattle.tape.specs.Lines.{seekFrom};
-ghost use Rattle.addresses.specs.Words.{capital, endsNumber, formOf, numberWord, indexedWord, wordAt, nextWord, NextIn};
+ghost use Rattle.addresses.specs.Words.{capital, endsNumber, formOf, numberWord, indexOf, IndexIn, wordAt, nextWord, NextIn};
 
 // A word as it is written: its address as a capital, its index (0 but for P and D), its number, and whether that had a point.
 pub struct Word {
@@ -29,6 +29,12 @@ pub enum NextWord {
 pub enum Address {
     Known(NumberForm),
     Unknown,
+}
+
+// The index of a word and the place of its number, or that they are not written as they must be.
+pub enum Index {
+    At(u8, usize),
+    Bad,
 }
 
 fn capital_of(b: u8) -> u8
@@ -110,26 +116,28 @@ fn number_word(
     }
 }
 
-// The same where an index digit and `=` stand before the number.
-fn indexed_word(line: &[u8], address: u8, form: NumberForm, from: usize, end: usize) -> NextWord
+// The index of a word whose number part ends at `end`, and where its number begins: for P and D behind an index digit and `=`, else at once.
+fn index_of(line: &[u8], address: u8, from: usize, end: usize) -> Index
     requires { ⌜ (from ≤ end) × (end ≤ length (now line)) ⌝ }
-    ensures { λ r. ⌜ r ≡ indexedWord (now (line .entry)) address form from end ⌝ }
+    ensures { λ r. ⌜ (r ≡ indexOf (now (line .entry)) address from end) × IndexIn r end ⌝ }
 {
+    if (address != b'P') & (address != b'D') {
+        return Index::At(0, from);
+    }
     if end - from < 2 {
-        return NextWord::Fault;
+        return Index::Bad;
     }
     let digit = line[from];
     if digit < b'0' {
-        return NextWord::Fault;
+        return Index::Bad;
     }
     if digit > b'9' {
-        return NextWord::Fault;
+        return Index::Bad;
     }
     if line[from + 1] != b'=' {
-        return NextWord::Fault;
+        return Index::Bad;
     }
-    let number = from + 2;
-    number_word(line, address, digit - b'0', form, number, end)
+    Index::At(digit - b'0', from + 2)
 }
 
 // The word whose address stands at p.
@@ -140,14 +148,15 @@ fn word_at(line: &[u8], p: usize) -> NextWord
     let address = capital_of(line[p]);
     let from = p + 1;
     let end = number_end(line, from);
-    let known = form_of(address);
-    match known {
-        Address::Unknown => NextWord::Fault,
-        Address::Known(form) => {
-            if (address == b'P') | (address == b'D') {
-                return indexed_word(line, address, form, from, end);
+    let index = index_of(line, address, from, end);
+    match index {
+        Index::Bad => NextWord::Fault,
+        Index::At(digit, number) => {
+            let known = form_of(address);
+            match known {
+                Address::Unknown => NextWord::Fault,
+                Address::Known(form) => number_word(line, address, digit, form, number, end),
             }
-            number_word(line, address, 0, form, from, end)
         }
     }
 }
