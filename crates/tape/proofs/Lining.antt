@@ -13,7 +13,7 @@ use lib.Seq.{drop-cons}
 use Rattle.letters.specs.Letters.{cr, space, opening, closing}
 use Rattle.tape.specs.declared.line.Line.{Line}
 use Rattle.tape.specs.declared.line.Gap.the-variants.{At, Fault}
-use Rattle.tape.specs.Lines.{seekFrom, isLineFeed, lineAt, LineIn, gapOf, GapIn, Text, textAt, linesUp, lines}
+use Rattle.tape.specs.Lines.{seekFrom, isLineFeed, Neither, lineAt, LineIn, gapOf, GapIn, Text, textAt, linesUp, lines}
 use Rattle.tape.proofs.Scanning.{scan-within}
 
 -- one law for each way on and each way out of a gap
@@ -50,6 +50,14 @@ module _ (s : List ℕ) (i : ℕ) where
     pub gap-word : (getD s i 0 ≡ opening → ⊥) → (getD s i 0 ≡ space → ⊥) → gapOf false i (drop i s) ≡ At i
     unfolding gapOf
     gap-word e f = rw (drop-cons s i 0, ne-eqb _ _ e, ne-eqb _ _ f)
+
+-- a comment goes on over bytes that neither close it nor are a CR
+pub gap-past : (n : ℕ) (s : List ℕ) (i j : ℕ) → i + n ≡ j → j ≤ length s → Neither s closing cr i j → gapOf true i (drop i s) ≡ gapOf true j (drop j s)
+gap-past zero s i j e h f = ap (λ (k : ℕ). gapOf true k (drop k s)) (omega (arith, e))
+gap-past (suc n) s i j e h f =
+    let here = f i (omega arith) (omega (arith, e)) in
+    gap-inside s i (omega (arith, e, h)) (here .1) (here .0)
+    ∙ gap-past n s (i + 1) j (omega (arith, e)) h (λ k l m. f k (omega (arith, l)) m)
 
 -- a gap ends where it begins or later, and within the line
 gap-at : (inside : Bool) (i : ℕ) (s : List ℕ) (n : ℕ) → i + length s ≤ n → (from : ℕ) → from ≤ i → GapIn (gapOf inside i s) from n

@@ -1,5 +1,6 @@
 -- 01, "Reading a tape": "All bytes before the first `%` or `O` are ignored (001); the first line begins there. A line ends with LF, CR LF or the end of
 -- the tape. .. A comment runs from `(` to the first `)` on the same line and is not taken over (001)."
+use mathlib.Core.Path.{_≡_}
 use mathlib.Core.Bool.{Bool, true, false, cond, not, _&&_, _||_}
 use mathlib.Core.List.{List, [], _∷_}
 use Prim.Native.Nat.{ℕ, zero, suc, _+_, _-_, _<_, _≤_}
@@ -25,6 +26,14 @@ opensTape b = eqb b percent || (eqb b letterO || eqb b 111)
 
 unfoldable pub isLineFeed : ℕ → Bool
 isLineFeed b = eqb b lf
+
+-- how many bytes are looked at together
+abbrev pub stretch : ℕ
+stretch = 8
+
+-- neither of two bytes stands from `from` to before `to`
+abbrev pub Neither : List ℕ → ℕ → ℕ → ℕ → ℕ → Type 0
+Neither s one other from to = (k : ℕ) → from ≤ k → k < to → (getD s k 0 ≡ one → ⊥) × (getD s k 0 ≡ other → ⊥)
 
 -- the line that begins at a place. With n the place of its LF: the text ends at n, or at n - 1 where a CR of the line stands there; the next line
 -- begins behind the LF. A line without LF ends with the tape
@@ -56,6 +65,11 @@ gapOf false i (b ∷ s) = cond (eqb b opening || eqb b space) (gapOf (eqb b open
 abbrev pub GapIn : Gap → ℕ → ℕ → Type 0
 GapIn Fault from n = Unit {0}
 GapIn (At p) from n = (from ≤ p) × (p ≤ n)
+
+-- the comment whose text begins at `from` is closed before p, and the gap goes on there; or it has a fault
+abbrev pub Closed : Gap → List ℕ → ℕ → Type 0
+Closed (At p) s from = (gapOf true from (drop from s) ≡ gapOf false p (drop p s)) × (from < p) × (p ≤ length s)
+Closed Fault s from = gapOf true from (drop from s) ≡ Fault
 
 -- a line as it is read: its place, its text, and where the next one begins
 pub record Text : Type 0 where

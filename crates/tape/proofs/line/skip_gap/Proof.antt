@@ -1,73 +1,76 @@
 -- `tape::line::skip_gap` meets its contract.
--- The loop's invariant: the gap from `from` on ends where the gap from `i` on ends, in a comment or not as `inside` says.
-use Prim.Native.Nat.{_-_, _<_, _≤_}
+-- The loop's invariant: the gap from `from` on ends where the gap from `i` on ends, outside a comment.
+use Prim.Native.Nat.{_+_, _-_, _<_, _≤_}
 use mathlib.Core.Bool.{false}
-use mathlib.Core.Logic.{⊎-elim}
-use mathlib.Core.Path.{_≡_, refl, sym, _∙_}
+use mathlib.Core.Path.{_≡_, refl, sym, _∙_, subst}
 use native.Mathlib.Omega.{arith}
 use lib.ListN.{length, drop}
-use Rattle.tape.specs.Lines.{gapOf}
-use Rattle.tape.proofs.Lining.{gap-open, gap-end, gap-return, gap-close, gap-inside, gap-begin, gap-space, gap-word}
+use borrow.Author.Needs.{needs}
+use Rattle.tape.specs.declared.line.Gap.{Gap}
+use Rattle.tape.specs.Lines.{gapOf, Closed}
+use Rattle.tape.proofs.Lining.{gap-end, gap-begin, gap-space, gap-word}
 use Rattle.tape.proofs.line.skip_gap.Statement.{statement}
 use Rattle.tape.proofs.line.skip_gap.Tie as tie
 
 abbrev Inv-loop : tie.InvT-loop
-Inv-loop line from i₀ inside₀ i inside = (i ≤ length line) × (gapOf false from (drop from line) ≡ gapOf inside i (drop i line)) × (from ≤ i)
+Inv-loop line from i₀ i = (i ≤ length line) × (gapOf false from (drop from line) ≡ gapOf false i (drop i line)) × (from ≤ i)
 
 abbrev μ-loop : tie.MeasureT-loop
-μ-loop line from i₀ inside₀ i inside = length line - i
+μ-loop line from i₀ i = length line - i
 
 loop-holds : tie.Need-loop-holds Inv-loop μ-loop
 loop-holds c = (omega arith, refl, omega arith)
 
+returns : tie.Need-returns Inv-loop μ-loop
+returns c =
+    let l = c .before in
+    (sym (l .loop .inv .1 ∙ gap-end (l .before .before .args .line .now) (l .loop .i) (c .if1 .taken)), (l .loop .inv .2, l .loop .inv .0))
+
 shared-slice-read-b : tie.Need-shared-slice-read-b Inv-loop μ-loop
 shared-slice-read-b c = omega arith
+
+add-skip-comment : tie.Need-add-skip-comment Inv-loop μ-loop
+add-skip-comment c = omega arith
+
+skip-comment-requires : tie.Need-skip-comment-requires Inv-loop μ-loop
+skip-comment-requires c κs = omega arith
+
+-- what lies behind the comment that was skipped
+closed : (k : tie.After-skip-comment Inv-loop μ-loop) {g : Gap} → k .skip-comment .result ≡ g
+    → Closed g (k .before .before .before .before .before .before .args .line .now) (k .before .before .before .before .loop .i + 1)
+closed k e = subst (λ (g : Gap). Closed g (k .before .before .before .before .before .before .args .line .now) (k .before .before .before .before .loop .i + 1)) e (k .skip-comment .ensures)
+
+returns-2 : tie.Need-returns-2 Inv-loop μ-loop
+returns-2 c =
+    let k = c .before .before in
+    let l = k .before .before .before .before in
+    (sym (l .loop .inv .1 ∙ gap-begin (l .before .before .args .line .now) (l .loop .i) (omega arith) (k .before .if2 .taken) ∙ closed k (c .enum-told .given .1)), tt)
+
+loop-less : tie.Need-loop-less Inv-loop μ-loop
+loop-less c = let p = closed (c .before .before .before) (c .before .behind .given .1) in omega (arith, p .1, p .2)
+
+loop-again : tie.Need-loop-again Inv-loop μ-loop
+loop-again c =
+    let k = c .before .before .before in
+    let l = k .before .before .before .before in
+    let p = closed k (c .before .behind .given .1) in
+    (p .2, l .loop .inv .1 ∙ gap-begin (l .before .before .args .line .now) (l .loop .i) (omega arith) (k .before .if2 .taken) ∙ p .0, omega (arith, p .1, l .loop .inv .2))
 
 add-i : tie.Need-add-i Inv-loop μ-loop
 add-i c = omega arith
 
-loop-less : tie.Need-loop-less Inv-loop μ-loop
-loop-less c = omega arith
+loop-less-2 : tie.Need-loop-less-2 Inv-loop μ-loop
+loop-less-2 c = omega arith
 
-loop-again : tie.Need-loop-again Inv-loop μ-loop
-loop-again c =
-    let s = c .before .before .before .before .args .line .now in
-    let l = c .before .before .before .loop in
-    let i = l .i in
-    let h : i < length s = omega arith in (
-      omega arith,
-      l .inv .1
-          ∙ ⊎-elim (λ w. rw (w .0 .taken, w .3) (gap-close s i h (w .2 .taken)))
-          (⊎-elim (λ w. rw (w .0 .taken, w .3, w .0 .taken) (gap-inside s i h (w .1 .left) (w .2 .left)))
-          (⊎-elim (λ w. rw (w .0 .left, w .2) (gap-begin s i h (w .1 .taken)))
-          (λ w. rw (w .0 .left, w .3, w .0 .left) (gap-space s i h (w .2 .left)))))
-          (c .if3 .came),
-      omega arith,
-    )
-
-returns : tie.Need-returns Inv-loop μ-loop
-returns c =
-    let s = c .before .before .before .args .line .now in
-    let l = c .before .before .loop in
-    (sym (l .inv .1 ∙ rw (c .if2 .taken) (gap-open s (l .i) (c .before .if1 .taken))), tt)
-
-returns-2 : tie.Need-returns-2 Inv-loop μ-loop
-returns-2 c =
-    let s = c .before .before .before .args .line .now in
-    let l = c .before .before .loop in
-    (sym (l .inv .1 ∙ rw (c .if2 .left) (gap-end s (l .i) (c .before .if1 .taken))), omega arith)
+loop-again-2 : tie.Need-loop-again-2 Inv-loop μ-loop
+loop-again-2 c =
+    let l = c .before .before .before .before in
+    (omega arith, l .loop .inv .1 ∙ gap-space (l .before .before .args .line .now) (l .loop .i) (omega arith) (c .if3 .taken), omega arith)
 
 returns-3 : tie.Need-returns-3 Inv-loop μ-loop
 returns-3 c =
-    let s = c .before .before .before .before .before .args .line .now in
-    let l = c .before .before .before .before .loop in
-    (sym (l .inv .1 ∙ rw (c .before .if3 .taken) (gap-return s (l .i) (omega arith) (c .if4 .taken))), tt)
-
-returns-4 : tie.Need-returns-4 Inv-loop μ-loop
-returns-4 c =
-    let s = c .before .before .before .before .before .before .args .line .now in
-    let l = c .before .before .before .before .before .loop in
-    (sym (l .inv .1 ∙ rw (c .before .before .if3 .left) (gap-word s (l .i) (omega arith) (c .before .if6 .left) (c .if7 .taken))), omega arith)
+    let l = c .before .before .before .before in
+    (sym (l .loop .inv .1 ∙ gap-word (l .before .before .args .line .now) (l .loop .i) (omega arith) (c .before .if2 .left) (c .if3 .left)), (l .loop .inv .2, l .loop .inv .0))
 
 pub skip-gap-spec : {M : Type 1} → statement M
 skip-gap-spec =
@@ -76,11 +79,16 @@ skip-gap-spec =
     Inv-loop
     μ-loop
     loop-holds
+    returns
     shared-slice-read-b
-    add-i
+    add-skip-comment
+    skip-comment-requires
+    (λ c. search needs)
+    returns-2
+    (λ c. search needs)
     loop-less
     loop-again
-    returns
-    returns-2
-    returns-3
-    returns-4)
+    add-i
+    loop-less-2
+    loop-again-2
+    returns-3)
