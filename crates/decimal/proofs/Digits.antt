@@ -4,7 +4,7 @@ use mathlib.Core.Path.{_≡_, refl, ap}
 use mathlib.Core.Bool.{true, false}
 use mathlib.Core.List.{List, [], _∷_, _++_}
 use Prim.Native.Nat.{ℕ, zero, suc, _+_, _/_, _%_, _^_, _<_, _≤_}
-use native.Mathlib.Nat.{div-lt-iff-lt-mul}
+use native.Mathlib.Nat.{div-lt-iff-lt-mul, le-div-iff-mul-le, pow-le-pow-right}
 use native.Mathlib.Omega.{arith}
 use lib.IntN.{ℤ, pos, negsuc, natAbs}
 use lib.ListN.{length, length-append}
@@ -54,13 +54,21 @@ signed-plus (pos n) e = refl
 signed-plus (negsuc n) e = absurd (omega (whole, lt-false (negsuc n) (pos 0) e))
 
 -- ---- how many there are
-few-digits : (k n : ℕ) → n < 10 ^ k → length (digits n) ≤ k
+pub few-digits : (k n : ℕ) → n < 10 ^ k → length (digits n) ≤ k
 few-digits zero zero h = omega (arith, ap length digits-none)
 few-digits zero (suc n) h = absurd (omega arith)
 few-digits (suc k) zero h = omega (arith, ap length digits-none)
 few-digits (suc k) (suc n) h =
     let l : suc n / 10 < 10 ^ k = div-lt-iff-lt-mul {k = 10} {x = suc n} {y = 10 ^ k} (omega arith) .1 (omega arith) in
     omega (arith, ap length (digits-more (suc n) (omega arith)), length-append (digits (suc n / 10)) ((digitZero + suc n % 10) ∷ []), few-digits k (suc n / 10) l)
+
+pub many-digits : (k n : ℕ) → 10 ^ k ≤ n → k < length (digits n)
+many-digits zero n h =
+    omega (arith, ap length (digits-more n (omega arith)), length-append (digits (n / 10)) ((digitZero + n % 10) ∷ []))
+many-digits (suc k) n h =
+    let l : 10 ^ k ≤ n / 10 = le-div-iff-mul-le {k = 10} {x = 10 ^ k} {y = n} (omega arith) .1 (omega arith) in
+    let some : 0 < n = omega (arith, h, pow-le-pow-right {n = 10} (omega arith) {i = 0} {j = suc k} (omega arith)) in
+    omega (arith, ap length (digits-more n some), length-append (digits (n / 10)) ((digitZero + n % 10) ∷ []), many-digits k (n / 10) l)
 
 pub few-decimal : (k n : ℕ) → n < 10 ^ suc k → length (decimal n) ≤ suc k
 unfolding decimal

@@ -2,7 +2,7 @@
 -- Assumes nothing.
 use mathlib.Core.Path.{_≡_, refl, sym, ap, _∙_, subst}
 use mathlib.Core.List.{List, [], _∷_, _++_, append-assoc}
-use Prim.Native.Nat.{ℕ, _+_, _≤_, _<_}
+use Prim.Native.Nat.{ℕ, zero, suc, _+_, _≤_, _<_}
 use native.Mathlib.Nat.{add-zero}
 use native.Mathlib.Numerals.{add-one}
 use native.Mathlib.Omega.{arith}
@@ -19,6 +19,18 @@ byte-laid b at x h = set-split b at x h ∙ ap (λ (n : ℕ). take at b ++ (x �
 
 pub byte-wrote : (b : List ℕ) (at x : ℕ) → at < length b → Wrote b at (x ∷ []) (at + 1) (set b at x)
 byte-wrote b at x h = record { place = refl; bytes = byte-laid b at x h }
+
+-- a byte before bytes that were written
+set-last : (b : List ℕ) (m x : ℕ) (r : List ℕ) → m < length b → set (take (suc m) b ++ r) m x ≡ take m b ++ (x ∷ r)
+set-last [] m x r h = absurd (omega (arith, h))
+set-last (y ∷ b) zero x r h = refl
+set-last (y ∷ b) (suc m) x r h = ap (λ (l : List ℕ). y ∷ l) (set-last b m x r (omega arith))
+
+pub before-laid : (b : List ℕ) (m x : ℕ) (w : List ℕ) → m < length b → set (laid b (suc m) w) m x ≡ laid b m (x ∷ w)
+unfolding laid
+before-laid b m x w h =
+    let e : suc m + length w ≡ m + suc (length w) = omega arith in
+    set-last b m x (w ++ drop (suc m + length w) b) h ∙ ap (λ (n : ℕ). take m b ++ (x ∷ (w ++ drop n b))) e
 
 -- ---- nothing
 pub nothing-wrote : (b : List ℕ) (at : ℕ) → Wrote b at [] at b

@@ -1,5 +1,6 @@
 // Words and decimal numbers written as text into a lent buffer, one behind the other.
 // Each function writes from a place on and answers the place behind what it wrote; all other bytes stay. Whoever calls it has seen to the room.
+ghost use mathlib.Core.Path.{_≡_};
 ghost use mathlib.Core.List.{[], _∷_, _++_};
 ghost use Prim.Native.Nat.{_+_, _<_, _≤_};
 ghost use lib.ListN.{length};
@@ -28,17 +29,44 @@ pub fn put_text(out: &mut [u8], at: usize, text: &[u8]) -> usize
     to
 }
 
-// The digits of a number above 0: those of its tens, and then the last one. (Of 0 there are none; `put_decimal` writes its one digit.)
+// No number of 64 bits has more digits.
+const MOST_DIGITS: usize = 20;
+
+// How many digits a number above 0 has.
+fn digit_count(n: usize) -> usize
+    requires { ⌜ 0 < n ⌝ }
+    ensures { λ r. ⌜ r ≡ length (digits n) ⌝ }
+{
+    let mut count: usize = 1;
+    // the least number that has more than `count` digits
+    let mut longer: usize = 10;
+    loop {
+        if n < longer {
+            return count;
+        }
+        count += 1;
+        if count == MOST_DIGITS {
+            return count;
+        }
+        longer = longer * 10;
+    }
+}
+
+// The digits of a number above 0, the last one first.
 fn put_digits(out: &mut [u8], at: usize, n: usize) -> usize
-    requires { ⌜ at + length (digits n) ≤ length (now out) ⌝ }
+    requires { ⌜ (0 < n) × (at + length (digits n) ≤ length (now out)) ⌝ }
     ensures { λ r. ⌜ Wrote (now (out .entry)) at (digits n) r (now (out .exit)) ⌝ }
 {
-    if n == 0 {
-        return at;
+    let next = at + digit_count(n);
+    let mut to = next;
+    let mut rest = n;
+    while 0 < rest {
+        to -= 1;
+        let last = (rest % 10) as u8;
+        out[to] = b'0' + last;
+        rest = rest / 10;
     }
-    let last = (n % 10) as u8;
-    let next = put_digits(out, at, n / 10);
-    put_byte(out, next, b'0' + last)
+    next
 }
 
 fn put_decimal(out: &mut [u8], at: usize, n: usize) -> usize
