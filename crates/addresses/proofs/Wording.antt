@@ -5,7 +5,7 @@ use mathlib.Core.Bool.{Bool, true, false, cond, _&&_, _||_}
 use mathlib.Core.List.{List}
 use mathlib.Core.Path.{_≡_, refl, sym, ap, _∙_}
 use native.Mathlib.Omega.{arith}
-use borrow.Author.Tests.{ltb-true}
+use borrow.Author.Tests.{ltb-true, le-ltb}
 use lib.Dec.{T, eqb, eqb→eq, ltb}
 use lib.ListN.{length, take, drop, getD}
 use Rattle.whole.specs.Among.{among}
@@ -18,7 +18,7 @@ use Rattle.numbers.specs.Numbers.{isDigit, numberOf}
 use Rattle.tape.specs.declared.line.Gap.{Gap}
 use Rattle.tape.specs.declared.line.Gap.the-variants as gap
 use Rattle.tape.specs.Lines.{seekFrom, gapOf, GapIn}
-use Rattle.tape.proofs.Lining.{gap-in}
+use Rattle.tape.proofs.Lining.{gap-in, gap-end}
 use Rattle.tape.proofs.Scanning.{scan-within}
 use Rattle.addresses.specs.declared.Index.{Index}
 use Rattle.addresses.specs.declared.Index.the-variants as index
@@ -125,6 +125,11 @@ module _ (s : List ℕ) (i : ℕ) (h : i ≤ length s) where
   -- what is the next word from a place on has its bounds
   pub next-by : {r : NextWord} → r ≡ nextWord s i → (r ≡ nextWord s i) × NextIn r i (length s)
   next-by e = (e, rw e next-in)
+
+-- at the end of a line there is none
+pub next-end : (s : List ℕ) (i : ℕ) → length s ≤ i → nextWord s i ≡ End
+unfolding nextWord
+next-end s i h = rw (gap-end s i h, le-ltb i (length s) h)
 
 -- the words behind a word, where the word ends further on
 onward-same : (x : NextWord) (f g : ℕ → Words) (i n : ℕ) → NextIn x i n → ((end : ℕ) → i < end → end ≤ n → f end ≡ g end) → onward x f ≡ onward x g

@@ -11,11 +11,16 @@ use Rattle.addresses.specs.Words.{faulty, onward, nextWord, wordsFrom}
 use Rattle.addresses.specs.declared.Word.{Word}
 use Rattle.addresses.specs.declared.NextWord.{NextWord}
 use Rattle.addresses.specs.declared.NextWord.the-variants as next
-use Rattle.addresses.proofs.Wording.{words-more}
+use Rattle.addresses.proofs.Wording.{words-more, next-end}
 use Rattle.block.specs.declared.words.Block.{Block}
 use Rattle.block.specs.declared.words.Slot.{Slot}
 use Rattle.block.specs.declared.words.Slot.the-variants.{At, Late, Unknown}
-use Rattle.block.specs.Words.{slotOf, noWords, isEnd, putIn, putWord, isProgramAddress, faultyRest, gather}
+use Rattle.block.specs.declared.words.Head.{Head}
+use Rattle.block.specs.declared.words.Head.the-variants.{Blank}
+use Rattle.block.specs.declared.words.LineStart.{LineStart}
+use Rattle.block.specs.declared.words.LineStart.the-variants as start
+use Rattle.block.specs.declared.words.ReadLine.{ReadLine}
+use Rattle.block.specs.Words.{slotOf, noWords, isEnd, putIn, putWord, isProgramAddress, faultyRest, gather, headOfNext, headOf, startBy, startOf, reading, lineBy, lineOf}
 
 -- no words are no more than any number
 pub none : {n : ℕ} → noWords .words ≤ n
@@ -67,3 +72,36 @@ module _ (s : List ℕ) (i : ℕ) (h : i ≤ length s) (b : Block) where
       → gather b (wordsFrom s i) ≡ gather (putWord b w) (wordsFrom s end)
   unfolding gather
   rest-word {w} {end} e f = from-next e ∙ ap (λ (t : Bool). cond t faultyRest (gather (putWord b w) (wordsFrom s end))) f
+
+  -- and that there are none at the line's end
+  pub rest-none : length s ≤ i → gather b (wordsFrom s i) ≡ record { block = b; faulty = false }
+  rest-none l = rest-end (next-end s i l)
+
+-- ---- a line by what it starts with
+abbrev pub headFrom : LineStart → Head
+headFrom start.Blank = Blank
+headFrom start.Fault = Blank
+headFrom (start.With h end) = h
+
+pub head-from : (s : List ℕ) → headOf s ≡ headFrom (startOf s)
+unfolding headOf startOf
+head-from s = by (nextWord s 0)
+  where
+    by : (n : NextWord) → headOfNext n ≡ headFrom (startBy n)
+    by next.Fault = refl
+    by next.End = refl
+    by (next.Word w end) = refl
+
+abbrev pub lineFrom : List ℕ → LineStart → ReadLine
+lineFrom s start.Blank = reading Blank (record { block = noWords; faulty = false })
+lineFrom s start.Fault = reading Blank faultyRest
+lineFrom s (start.With h end) = reading h (gather noWords (wordsFrom s end))
+
+pub line-from : (s : List ℕ) → lineOf s ≡ lineFrom s (startOf s)
+unfolding lineOf startOf gather
+line-from s = by (nextWord s 0)
+  where
+    by : (n : NextWord) → lineBy s n ≡ lineFrom s (startBy n)
+    by next.Fault = refl
+    by next.End = refl
+    by (next.Word w end) = refl

@@ -3,7 +3,7 @@
 -- and D, of an address and index) is the one that applies, and for G and M the last word of its group (001)." "Reading ends after a line whose last word is M30".
 use mathlib.Core.Bool.{Bool, true, false, cond, _&&_, _||_}
 use mathlib.Core.List.{List}
-use Prim.Native.Nat.{ℕ, _+_, _<_}
+use Prim.Native.Nat.{ℕ, _+_, _<_, _≤_}
 use lib.Dec.{eqb}
 use lib.IntN.{pos, natAbs}
 use lib.ListN.{set, replicate}
@@ -19,6 +19,8 @@ use Rattle.block.specs.declared.words.Slot.{Slot}
 use Rattle.block.specs.declared.words.Slot.the-variants.{At, Late, Unknown}
 use Rattle.block.specs.declared.words.Head.{Head}
 use Rattle.block.specs.declared.words.Head.the-variants.{Blank, ProgramLine, BlockLine, Other}
+use Rattle.block.specs.declared.words.LineStart.{LineStart}
+use Rattle.block.specs.declared.words.LineStart.the-variants as start
 use Rattle.block.specs.declared.words.Rest.{Rest}
 use Rattle.block.specs.declared.words.ReadLine.{ReadLine}
 use Rattle.codes.specs.Codes.{gCode, mCode}
@@ -100,6 +102,21 @@ headOfNext (next.Word w end) = headBy w
 
 unfoldable pub headOf : List ℕ → Head
 headOf s = headOfNext (nextWord s 0)
+
+-- what a line starts with: a word, by how the line begins with it and the place behind it, or none, or a fault
+abbrev pub startBy : NextWord → LineStart
+startBy next.Fault = start.Fault
+startBy next.End = start.Blank
+startBy (next.Word w end) = start.With (headBy w) end
+
+unfoldable pub startOf : List ℕ → LineStart
+startOf s = startBy (nextWord s 0)
+
+-- the place behind the first word lies within a line of n bytes
+abbrev pub StartIn : LineStart → ℕ → Type 0
+StartIn (start.With h end) n = end ≤ n
+StartIn start.Blank n = Unit {0}
+StartIn start.Fault n = Unit {0}
 
 -- alarm 7: "line above 160 bytes, comments counted, line end not"
 abbrev pub longestLine : ℕ

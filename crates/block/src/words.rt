@@ -9,7 +9,7 @@ ghost use lib.ListN.{length};
 ghost use Rattle.addresses.specs.Words.{wordsFrom};
 ghost use Rattle.codes.specs.Codes.{gCode, mCode};
 ghost use Rattle.block.specs.Slots.{slots, mSlot, dSlot, gSlot, has, codeIn, gIn, mIn};
-ghost use Rattle.block.specs.Words.{longestLine, SlotIn, codeSlot, slotOf, noWords, isEnd, isProgramAddress, faultyRest, gather, headBy, headOf, lineOf};
+ghost use Rattle.block.specs.Words.{longestLine, SlotIn, codeSlot, slotOf, noWords, isEnd, isProgramAddress, faultyRest, gather, headBy, headOf, startOf, StartIn, lineOf};
 
 // The slots of a block's words, and how many there are: X Z U W F S T, the groups of M, P and D by their indexes, L, and the groups of G.
 pub const SLOTS: usize = 40;
@@ -83,6 +83,13 @@ pub enum Head {
     ProgramLine(u32),
     BlockLine(u32),
     Other,
+}
+
+// What a line starts with: a word, by how the line begins with it and the place behind it; or none; or a fault.
+pub enum LineStart {
+    Blank,
+    Fault,
+    With(Head, usize),
 }
 
 // A line as it is read: how it begins, the words behind that, and whether it has a fault (alarm 5).
@@ -246,7 +253,7 @@ fn faulty_rest() -> Rest
 
 // The words of a line from `from` on, each put into the block where it belongs: the last word of a slot is the one that applies. A line that is not too long has no more words
 // than a byte can count.
-fn read_rest(line: &[u8], from: usize) -> Rest
+pub fn read_rest(line: &[u8], from: usize) -> Rest
     requires { ⌜ (from ≤ length (now line)) × (length (now line) ≤ longestLine) ⌝ }
     ensures { λ r. ⌜ r ≡ gather noWords (wordsFrom (now (line .entry)) from) ⌝ }
 {
@@ -307,6 +314,18 @@ pub fn head_of(line: &[u8]) -> Head
         NextWord::Fault => Head::Blank,
         NextWord::End => Head::Blank,
         NextWord::Word(w, _) => head_by(w),
+    }
+}
+
+// What a line starts with, by its first word alone.
+pub fn start_of(line: &[u8]) -> LineStart
+    ensures { λ r. ⌜ (r ≡ startOf (now (line .entry))) × StartIn r (length (now (line .entry))) ⌝ }
+{
+    let next = addresses::next_word(line, 0);
+    match next {
+        NextWord::Fault => LineStart::Fault,
+        NextWord::End => LineStart::Blank,
+        NextWord::Word(w, end) => LineStart::With(head_by(w), end),
     }
 }
 

@@ -1,18 +1,40 @@
 -- Laws of a search along the lines of a tape: its end, and one line of it, with the line and its head as they were found.
 -- Assumes nothing.
-use Prim.Native.Nat.{ℕ, _-_, _<_, _≤_}
+use Prim.Native.Nat.{ℕ, _+_, _-_, _<_, _≤_}
 use mathlib.Core.List.{List}
-use mathlib.Core.Path.{_≡_}
-use lib.ListN.{length, take, drop}
+use mathlib.Core.Path.{_≡_, refl, sym, ap, _∙_, subst}
+use native.Mathlib.Omega.{arith}
+use lib.ListN.{length, take, drop, length-take}
 use Rattle.tape.specs.declared.line.Line.{Line}
-use Rattle.tape.specs.Lines.{lineAt, lines}
+use Rattle.tape.specs.Lines.{LineIn, textAt, lineAt, lines}
 use Rattle.tape.proofs.Lining.{lines-end, lines-more}
-use Rattle.block.specs.Words.{headOf}
+use Rattle.block.specs.Words.{headOf, startOf}
+use Rattle.block.proofs.Lines.{headFrom, head-from}
+use Rattle.block.specs.declared.words.LineStart.{LineStart}
+use Rattle.block.specs.declared.words.LineStart.the-variants as start
+use Rattle.block.specs.declared.words.Head.the-variants.{Blank, ProgramLine, BlockLine, Other}
 use Rattle.block.specs.declared.words.Head.{Head}
 use Rattle.finding.specs.declared.Here.{Here}
+use Rattle.finding.specs.declared.Here.the-variants.{Is, Ends, On}
+use Rattle.finding.specs.declared.Sought.the-variants.{AnyBlock}
+use Rattle.finding.specs.declared.NextBlock.the-variants as next
 use Rattle.finding.specs.declared.Sought.{Sought}
-use Rattle.finding.specs.declared.Found.the-variants.{Nowhere}
-use Rattle.finding.specs.Finding.{hereOf, foundBy, seekLine}
+use Rattle.finding.specs.declared.Found.the-variants.{At, Nowhere}
+use Rattle.finding.specs.Finding.{hereOf, foundBy, seekLine, firstBlock, behindStart, nextBlock, BlockIn}
+
+-- only one of the three
+abbrev OnlyIs : Here → Type 0
+OnlyIs Is = Unit {0}
+OnlyIs Ends = ⊥
+OnlyIs On = ⊥
+
+-- a line that is a next block begins with a block number
+pub is-block : (h : Head) → hereOf AnyBlock h ≡ Is → (n : ℕ) × (h ≡ BlockLine n)
+unfolding hereOf
+is-block (BlockLine n) e = (n, refl)
+is-block (ProgramLine n) e = absurd (subst OnlyIs (sym e) tt)
+is-block Blank e = absurd (subst OnlyIs (sym e) tt)
+is-block Other e = absurd (subst OnlyIs (sym e) tt)
 
 module _ (w : Sought) (s : List ℕ) (p : ℕ) where
   pub seek-end : length s ≤ p → seekLine w (lines s p) ≡ Nowhere
@@ -23,3 +45,29 @@ module _ (w : Sought) (s : List ℕ) (p : ℕ) where
       → seekLine w (lines s p) ≡ foundBy h p (seekLine w (lines s (r .after)))
   unfolding seekLine
   seek-more l e f g = rw (g, f, e, lines-more s p l)
+
+-- ---- the next block, by what a line starts with
+module _ (s : List ℕ) (p : ℕ) (l : p < length s) {r : Line} (e : r ≡ lineAt s p) {x : LineStart} (f : x ≡ startOf (take (r .stop - p) (drop p s))) where
+  pub first-more : firstBlock (lines s p) ≡ foundBy (hereOf AnyBlock (headFrom x)) p (firstBlock (lines s (r .after)))
+  first-more = seek-more AnyBlock s p l e (ap headFrom f ∙ sym (head-from (take (r .stop - p) (drop p s)))) refl
+
+  -- the text, as it is defined
+  text-is : startOf (textAt s p .bytes) ≡ x
+  text-is = sym (f ∙ ap (λ (y : Line). startOf (take (y .stop - p) (drop p s))) e)
+
+  pub found-is : {h : Head} {behind : ℕ} → x ≡ start.With h behind → next.At (record { at = p; behind = behind; stop = r .stop; after = r .after }) ≡ nextBlock s (At p)
+  unfolding nextBlock
+  found-is {h} {behind} g =
+      (λ i. next.At (record { at = p; behind = ap behindStart (sym (text-is ∙ g)) i; stop = e i .stop; after = e i .after }))
+
+  pub found-in : {h : Head} {behind : ℕ} → x ≡ start.With h behind → hereOf AnyBlock h ≡ Is → behind ≤ length (take (r .stop - p) (drop p s)) → LineIn r p (length s)
+      → BlockIn s (record { at = p; behind = behind; stop = r .stop; after = r .after })
+  found-in {h} {behind} g i b o =
+      let n = is-block h i in record {
+        number = n .0;
+        starts = text-is ∙ g ∙ ap (λ (k : Head). start.With k behind) (n .1);
+        on = omega arith;
+        begins = omega (arith, b, length-take (r .stop - p) (drop p s), o .begins);
+        text = o .text;
+        ends = o .ends;
+      }

@@ -1,13 +1,20 @@
 -- Searches along the lines of a tape. 01: "Running a program runs its blocks"; alarm 10: "main missing; called number .. missing"; "G27 goes to the block numbered L of the same program",
 -- alarm 11. A program ends where the next one begins or where the lines end.
+use mathlib.Core.Path.{_≡_}
 use mathlib.Core.Bool.{cond}
 use mathlib.Core.List.{List, [], _∷_}
-use Prim.Native.Nat.{ℕ}
+use Prim.Native.Nat.{ℕ, _+_, _≤_}
 use lib.Dec.{eqb}
-use Rattle.tape.specs.Lines.{Text, lineAt, lines}
-use Rattle.block.specs.Words.{headOf}
+use lib.ListN.{length}
+use Rattle.tape.specs.Lines.{Text, textAt, lineAt, lines}
+use Rattle.block.specs.Words.{headOf, startOf}
 use Rattle.block.specs.declared.words.Head.{Head}
 use Rattle.block.specs.declared.words.Head.the-variants.{Blank, ProgramLine, BlockLine, Other}
+use Rattle.block.specs.declared.words.LineStart.{LineStart}
+use Rattle.block.specs.declared.words.LineStart.the-variants as start
+use Rattle.finding.specs.declared.BlockAt.{BlockAt}
+use Rattle.finding.specs.declared.NextBlock.{NextBlock}
+use Rattle.finding.specs.declared.NextBlock.the-variants as next
 use Rattle.finding.specs.declared.Here.{Here}
 use Rattle.finding.specs.declared.Here.the-variants.{Is, Ends, On}
 use Rattle.finding.specs.declared.Sought.{Sought}
@@ -53,3 +60,29 @@ firstBlock ts = seekLine AnyBlock ts
 -- the place of the block n of the program whose line stands at `program`: all lines behind the program line are searched
 unfoldable pub blockOfProgram : ℕ → List ℕ → ℕ → Found
 blockOfProgram n tape program = seekLine (Block n) (lines tape (lineAt tape program .after))
+
+-- the next block line as it is found: its place, the place in its text behind its first word, where the text ends, and where the next line begins
+abbrev pub behindStart : LineStart → ℕ
+behindStart (start.With h end) = end
+behindStart start.Blank = 0
+behindStart start.Fault = 0
+
+abbrev pub blockAt : List ℕ → ℕ → BlockAt
+blockAt tape p = record { at = p; behind = behindStart (startOf (textAt tape p .bytes)); stop = lineAt tape p .stop; after = lineAt tape p .after }
+
+unfoldable pub nextBlock : List ℕ → Found → NextBlock
+nextBlock tape (At p) = next.At (blockAt tape p)
+nextBlock tape Nowhere = next.Nowhere
+
+-- what is known of it: it stands on the tape, and starts with a block number
+pub record BlockIn (tape : List ℕ) (l : BlockAt) : Type 0 where
+  pub number : ℕ
+  pub starts : startOf (textAt tape (l .at) .bytes) ≡ start.With (BlockLine number) (l .behind)
+  pub on : l .at ≤ length tape
+  pub begins : l .at + l .behind ≤ l .stop
+  pub text : l .stop ≤ length tape
+  pub ends : l .after ≤ length tape
+
+abbrev pub NextIn : List ℕ → NextBlock → Type 0
+NextIn tape (next.At l) = BlockIn tape l
+NextIn tape next.Nowhere = Unit {0}

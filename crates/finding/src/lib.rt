@@ -1,16 +1,31 @@
 // Finding a program or a block: one walk along the lines of a tape that was read. (01: "Running a program runs its blocks", "G27 goes to the block numbered L of the same program".)
 // The tape that is handed in begins where the whole tape does, so that places count from there, and ends where its reading ended: nothing behind that exists.
 use block::words::Head;
+use block::words::LineStart;
 ghost use mathlib.Core.Path.{_≡_};
 ghost use Prim.Native.Nat.{_≤_};
 ghost use lib.ListN.{length};
 ghost use Rattle.tape.specs.Lines.{lines};
-ghost use Rattle.finding.specs.Finding.{hereOf, seekLine, findProgram, firstBlock, blockOfProgram};
+ghost use Rattle.finding.specs.Finding.{hereOf, seekLine, findProgram, firstBlock, blockOfProgram, nextBlock, NextIn};
 ghost use Rattle.finding.specs.declared.Sought.the-variants.{Program, Block, AnyBlock};
 
 // The first byte of the line that was sought, or that there is none.
 pub enum Found {
     At(usize),
+    Nowhere,
+}
+
+// A block line that was found: its first byte, the place in its text behind its block number, where the text ends, and where the next line begins.
+pub struct BlockAt {
+    pub at: usize,
+    pub behind: usize,
+    pub stop: usize,
+    pub after: usize,
+}
+
+// The next block line of a program, or that the program ends before one.
+pub enum NextBlock {
+    At(BlockAt),
     Nowhere,
 }
 
@@ -117,12 +132,49 @@ pub fn find_program(tape: &[u8], from: usize, number: u32) -> Found
     seek_line(tape, from, Sought::Program(number))
 }
 
-// The next block line from the line at `from` on, or none where the program ends before.
-pub fn next_block(tape: &[u8], from: usize) -> Found
+// The next block line from the line at `from` on, or none where the program ends before. Each line is found and its first word read once: whoever does the block reads on behind it.
+pub fn next_block(tape: &[u8], from: usize) -> NextBlock
     requires { ⌜ from ≤ length (now tape) ⌝ }
-    ensures { λ r. ⌜ r ≡ firstBlock (lines (now (tape .entry)) from) ⌝ }
+    ensures { λ r. ⌜ (r ≡ nextBlock (now (tape .entry)) (firstBlock (lines (now (tape .entry)) from))) × NextIn (now (tape .entry)) r ⌝ }
 {
-    seek_line(tape, from, Sought::AnyBlock)
+    let mut p = from;
+    let r = loop {
+        if p >= tape.len() {
+            break NextBlock::Nowhere;
+        }
+        let line = tape::line::line_at(tape, p);
+        let stop = line.stop;
+        let after = line.after;
+        let start = block::words::start_of(&tape[p..stop]);
+        match start {
+            LineStart::Blank => {
+                p = after;
+            }
+            LineStart::Fault => {
+                p = after;
+            }
+            LineStart::With(head, behind) => {
+                let here = any_here(head);
+                match here {
+                    Here::Is => {
+                        break NextBlock::At(BlockAt {
+                            at: p,
+                            behind,
+                            stop,
+                            after,
+                        });
+                    }
+                    Here::Ends => {
+                        break NextBlock::Nowhere;
+                    }
+                    Here::On => {
+                        p = after;
+                    }
+                }
+            }
+        }
+    };
+    r
 }
 
 // The block of a number in the program whose line stands at `program`: it may lie before the block that asks for it, or be that block.

@@ -1,2 +1,3 @@
 -- The laws of this crate, for the crates built on it.
 pub mod Running
+pub mod Wordless

@@ -79,7 +79,7 @@ module _ (table : List ℤ) (set : Settings) (s : State) (b : Block) where
       unfolding outside moved
       sound-at u k due x z e =
           let n = neither (outsideSpan (set .limits .x) x) (outsideSpan (set .limits .z) z) e in
-          record { numbers = record { «shift_group3» = k .numbers .«shift_group3»; «shift_group5» = k .numbers .«shift_group5»; correction = k .numbers .correction }; x = in-span (set .limits .x) (r .x) x (n .0); z = in-span (set .limits .z) (r .z) z (n .1) }
+          record { kept = k .kept; numbers = record { «shift_group3» = k .numbers .«shift_group3»; «shift_group5» = k .numbers .«shift_group5»; correction = k .numbers .correction }; x = in-span (set .limits .x) (r .x) x (n .0); z = in-span (set .limits .z) (r .z) z (n .1) }
 
       sound-done : (u : State) → Sound u → (d : Deed) → asksOf d (set .limits) .outside ≡ false → Sound (done u d)
       unfolding done asksOf

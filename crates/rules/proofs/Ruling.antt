@@ -15,7 +15,7 @@ module _ (test : ℕ → Bool) (k to : ℕ) where
   abbrev from : Bool
   from = anyOf test (numbersFrom k (to - k))
 
-  by-first : k < to → from ≡ (test k || anyOf test (numbersFrom (k + 1) (to - (k + 1))))
+  pub by-first : k < to → from ≡ (test k || anyOf test (numbersFrom (k + 1) (to - (k + 1))))
   unfolding anyOf
   by-first l = let e : to - k ≡ suc (to - (k + 1)) = omega arith in ap (λ (n : ℕ). anyOf test (numbersFrom k n)) e
 
@@ -28,6 +28,15 @@ module _ (test : ℕ → Bool) (k to : ℕ) where
 
   pub any-more : k < to → test k ≡ false → from ≡ anyOf test (numbersFrom (k + 1) (to - (k + 1)))
   any-more l h = by-first l ∙ ap (λ (t : Bool). t || anyOf test (numbersFrom (k + 1) (to - (k + 1)))) h
+
+-- a test that was found to hold of one before it, or holds of it
+pub or-more : (found t rest : Bool) → (found || (t || rest)) ≡ ((found || t) || rest)
+or-more true t rest = refl
+or-more false t rest = refl
+
+pub or-end : (found : Bool) → (found || false) ≡ found
+or-end true = refl
+or-end false = refl
 
 -- a slot whose place was tested
 pub has-some : (b : Block) (k : ℕ) → (getD (b .place) k 0 ≡ 0 → ⊥) → has b k ≡ true

@@ -96,9 +96,13 @@ brokenBy (BlockLine n) b = broken b
 brokenBy Blank b = false
 brokenBy Other b = false
 
+-- a line of an alarm or none, and a head, and no more
+abbrev pub judgedAlone : ℕ → Head → Judged
+judgedAlone n h = record { alarm = n; head = h; broken = false; ends = false }
+
 -- a line with alarm 7 or 5: the other fields say nothing
 abbrev pub refusedLine : ℕ → Judged
-refusedLine n = record { alarm = n; head = Blank; broken = false; ends = false }
+refusedLine n = judgedAlone n Blank
 
 abbrev pub judgedBy : ReadLine → Judged
 judgedBy r =

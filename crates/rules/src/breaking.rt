@@ -14,22 +14,18 @@ ghost use Rattle.rules.specs.Rules.{callsOrJumps, axisTwice, lWordWrong,
 // P and D have the indexes 0 to 9.
 const INDEXES: usize = 10;
 
-// Whether a word applies in any of the slots from `from` to before `to`.
+// Whether a word applies in any of the slots from `from` to before `to`. All of them are looked at, so that the compiler compares them at once.
 fn any(b: Block, from: usize, to: usize) -> bool
     requires { ⌜ (from ≤ to) × (to ≤ slots) ⌝ }
     ensures { λ r. ⌜ r ≡ anyIn b (numbersFrom from (to - from)) ⌝ }
 {
+    let mut found = false;
     let mut k = from;
-    let r = loop {
-        if k >= to {
-            break false;
-        }
-        if b.place[k] != 0 {
-            break true;
-        }
+    while k < to {
+        found = found | (b.place[k] != 0);
         k += 1;
-    };
-    r
+    }
+    found
 }
 
 // Whether the block is a G25 or a G27 block.

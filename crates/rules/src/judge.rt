@@ -2,8 +2,13 @@
 // (01: "then lines from the front, each 7, 5, 6, 8, 9". 02 takes 8 out.)
 use block::words::Block;
 use block::words::Head;
+use block::words::LineStart;
 ghost use mathlib.Core.Path.{_≡_};
-ghost use Rattle.rules.specs.Rules.{brokenBy, judged};
+ghost use Prim.Native.Nat.{_≤_};
+ghost use lib.ListN.{length};
+ghost use Rattle.addresses.specs.Words.{wordsFrom};
+ghost use Rattle.block.specs.Words.{longestLine, noWords, gather, reading};
+ghost use Rattle.rules.specs.Rules.{brokenBy, judgedAlone, judgedBy, judged};
 
 // What a line shows by itself: alarm 7 or 5 or 0, and where that is 0, how it begins, whether it breaks a word rule, and whether M30 is the last word
 // behind its first. Ask the alarm first: where it is not 0 the other fields say nothing.
@@ -26,33 +31,50 @@ fn breaks_behind(head: Head, b: Block) -> bool
     }
 }
 
-// What the text of a line, without its line end, shows by itself, whatever stood before it.
-pub fn judge_line(line: &[u8]) -> Judged
-    ensures { λ r. ⌜ r ≡ judged (now (line .entry)) ⌝ }
+// What a line shows that is refused, or that has no words behind its first.
+fn judged_alone(alarm: u8, head: Head) -> Judged
+    ensures { λ r. ⌜ r ≡ judgedAlone alarm head ⌝ }
 {
-    if line.len() > block::words::LONGEST_LINE {
-        return Judged {
-            alarm: alarms::LINE_TOO_LONG,
-            head: Head::Blank,
-            broken: false,
-            ends: false,
-        };
+    Judged {
+        alarm,
+        head,
+        broken: false,
+        ends: false,
     }
-    let read = block::words::read_line(line);
-    if read.faulty {
-        return Judged {
-            alarm: alarms::BAD_BYTE_OR_NUMBER,
-            head: Head::Blank,
-            broken: false,
-            ends: false,
-        };
+}
+
+// What a line shows that begins with `head`, by the words behind that. A bare number has none: it is passed at once.
+fn judge_words(line: &[u8], head: Head, behind: usize) -> Judged
+    requires { ⌜ (behind ≤ length (now line)) × (length (now line) ≤ longestLine) ⌝ }
+    ensures { λ r. ⌜ r ≡ judgedBy (reading head (gather noWords (wordsFrom (now (line .entry)) behind))) ⌝ }
+{
+    if behind >= line.len() {
+        return judged_alone(0, head);
     }
-    let head = read.head;
-    let block = read.block;
+    let rest = block::words::read_rest(line, behind);
+    if rest.faulty {
+        return judged_alone(alarms::BAD_BYTE_OR_NUMBER, Head::Blank);
+    }
+    let block = rest.block;
     Judged {
         alarm: 0,
         head,
         broken: breaks_behind(head, block),
         ends: block.ends,
+    }
+}
+
+// What the text of a line, without its line end, shows by itself, whatever stood before it.
+pub fn judge_line(line: &[u8]) -> Judged
+    ensures { λ r. ⌜ r ≡ judged (now (line .entry)) ⌝ }
+{
+    if line.len() > block::words::LONGEST_LINE {
+        return judged_alone(alarms::LINE_TOO_LONG, Head::Blank);
+    }
+    let start = block::words::start_of(line);
+    match start {
+        LineStart::Blank => judged_alone(0, Head::Blank),
+        LineStart::Fault => judged_alone(alarms::BAD_BYTE_OR_NUMBER, Head::Blank),
+        LineStart::With(head, behind) => judge_words(line, head, behind),
     }
 }

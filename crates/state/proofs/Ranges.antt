@@ -12,14 +12,17 @@ use lib.ListN.{getD}
 use Rattle.whole.specs.Position.{inTable}
 use Rattle.whole.proofs.Positions.{InTable}
 use Rattle.whole.proofs.Integers.{whole, add-in, sub-in, up-mul, down-mul, abs}
-use Rattle.acts.specs.Acting.{shiftBy}
+use Rattle.acts.specs.Acting.{keep, shiftBy}
+use Rattle.acts.specs.declared.acting.Kept.{Kept}
+use Rattle.acts.specs.declared.acting.Kept.the-variants.{Nothing, Of}
 use Rattle.codes.specs.Codes.{Row, look, gRows, gCode}
 use Rattle.block.specs.Slots.{xSlot, zSlot, uSlot, wSlot, tSlot, has, codeIn, gIn}
 use Rattle.block.specs.Worded.{Worded}
 use Rattle.codes.specs.declared.meaning.Code.the-variants as code
+use Rattle.codes.specs.declared.meaning.Motion.the-variants as motion
 use Rattle.block.specs.declared.words.Block.{Block}
 use Rattle.state.specs.declared.modal.State.{State}
-use Rattle.state.specs.Modal.{atStart, correctionAfter, settled}
+use Rattle.state.specs.Modal.{atStart, blockMotion, correctionAfter, settled}
 use Rattle.settings.specs.Known.{Table}
 use Rattle.state.specs.Known.{Sound, Sent}
 use Rattle.state.specs.Target.{offsetOf, wordIn, targetX, targetZ}
@@ -63,9 +66,22 @@ correction-after : (before : ℕ) (b : Block) → before ≤ 99 → correctionAf
 unfolding correctionAfter
 correction-after before b h = either (has b tSlot) _ before 99 (omega arith) h
 
+-- ---- what is kept of a motion function is kept
+keep-kept : (m before : Kept) → keep before Nothing ≡ before → keep (keep m before) Nothing ≡ keep m before
+unfolding keep
+keep-kept Nothing before e = e
+keep-kept (Of motion.Rapid) before e = refl
+keep-kept (Of motion.Feed) before e = refl
+keep-kept (Of motion.Thread) before e = refl
+keep-kept (Of motion.Dwell) before e = e
+keep-kept (Of motion.Turning) before e = e
+keep-kept (Of motion.Threading) before e = e
+keep-kept (Of motion.Grooving) before e = e
+
 pub settled-sound : (s : State) (b : Block) → Sound s → Sound (settled s b)
 unfolding settled
 settled-sound s b h = record {
+  kept = keep-kept (blockMotion (s .motion) b) (s .motion) (h .kept);
   numbers = record {
     «shift_group3» = shift-after (s .«shift_group3») (h .numbers .«shift_group3») b _;
     «shift_group5» = shift-after (s .«shift_group5») (h .numbers .«shift_group5») b _;
@@ -76,7 +92,8 @@ settled-sound s b h = record {
 }
 
 pub start-sound : (x z : ℤ) → inTable x ≡ true → inTable z ≡ true → Sound (atStart x z)
-start-sound x z hx hz = record { numbers = record { «shift_group3» = omega arith; «shift_group5» = omega arith; correction = omega arith }; x = hx; z = hz }
+unfolding keep
+start-sound x z hx hz = record { kept = refl; numbers = record { «shift_group3» = omega arith; «shift_group5» = omega arith; correction = omega arith }; x = hx; z = hz }
 
 -- ---- it is what a target asks for, with the offset of the table
 sent-with : (s : State) (b : Block) (o : ℤ) → Sound s → Worded b → Offset o → Sent s b o

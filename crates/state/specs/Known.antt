@@ -10,6 +10,8 @@ use Rattle.whole.specs.Position.{inTable}
 use Rattle.whole.specs.Signed.{minus}
 use Rattle.whole.specs.declared.position.Placed.{Placed}
 use Rattle.whole.specs.declared.position.Placed.the-variants.{At, Outside}
+use Rattle.acts.specs.Acting.{keep}
+use Rattle.acts.specs.declared.acting.Kept.the-variants.{Nothing}
 use Rattle.block.specs.declared.words.Block.{Block}
 use Rattle.state.specs.declared.modal.State.{State}
 
@@ -24,8 +26,10 @@ pub record Numbers (s : State) : Type 0 where
   pub «shift_group5» : s .«shift_group5» ≤ 5
   pub correction : s .correction ≤ 99
 
--- what is known of the machine between two blocks: the table has its shifts and its correction, and the axes stand in the table's range
+-- what is known of the machine between two blocks: its motion function is one that is kept (04 84 85 86 are for their block only), the table has its shifts and its correction, and the
+-- axes stand in the table's range
 pub record Sound (s : State) : Type 0 where
+  pub kept : keep (s .motion) Nothing ≡ s .motion
   pub numbers : Numbers s
   pub x : inTable (s .x) ≡ true
   pub z : inTable (s .z) ≡ true

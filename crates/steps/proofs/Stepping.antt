@@ -1,29 +1,37 @@
 -- One block of a run, refused or done: what the code makes of its parts is what is defined, and what is known before it is known after it.
 -- Assumes nothing.
 use mathlib.Core.Path.{_≡_, refl, sym, ap, _∙_, subst}
-use mathlib.Core.Bool.{Bool, true, false, cond}
+use mathlib.Core.Bool.{Bool, true, false, cond, _&&_}
 use mathlib.Core.List.{List, []}
 use Prim.Native.Nat.{ℕ, zero, suc, _+_, _-_, _≤_, _<_}
 use native.Mathlib.Omega.{arith}
-use lib.Dec.{ltb, eqb}
+use lib.Dec.{T, ltb, eqb}
 use lib.IntN.{ℤ}
-use lib.ListN.{length, take, drop}
-use borrow.Author.Tests.{eq-eqb, ne-eqb}
+use lib.ListN.{length, take, drop, length-take, length-drop}
+use borrow.Author.Tests.{eq-eqb, ne-eqb, le-ltb}
 use Rattle.whole.specs.Bytes.{laid}
 use Rattle.whole.proofs.Laying.{laid-nil}
 use Rattle.alarms.specs.Numbers.{tooManyBegun, wrongEnd}
 use Rattle.alarms.proofs.Above.{alarm-above}
 use Rattle.moves.specs.Form.{recordStart, rowBytes}
 use Rattle.moves.specs.declared.record.Record.{Record}
-use Rattle.tape.specs.Lines.{gapOf, lineAt, lines}
-use Rattle.addresses.specs.Words.{nextWord}
-use Rattle.tape.specs.declared.line.Line.{Line}
-use Rattle.block.specs.Words.{longestLine, noWords, gather, lineOf}
+use Rattle.tape.specs.Lines.{gapOf, textAt, lineAt, lines}
+use Rattle.addresses.specs.Words.{nextWord, wordsFrom}
+use Rattle.block.specs.Words.{longestLine, noWords, gather, lineOf, startOf}
+use Rattle.block.specs.Slots.{has, gIn, mIn}
+use Rattle.block.specs.declared.words.Head.the-variants.{BlockLine}
+use Rattle.block.specs.declared.words.ReadLine.{ReadLine}
+use Rattle.block.specs.declared.words.Rest.{Rest}
+use Rattle.block.proofs.Lines.{rest-none, lineFrom, line-from}
 use Rattle.block.specs.Worded.{Worded}
 use Rattle.block.proofs.Worded.{worded}
-use Rattle.state.specs.Request.{requestOf}
+use Rattle.state.specs.Request.{steered, flowBy, requestOf}
+use Rattle.state.specs.declared.request.Request.the-variants as next
 use Rattle.block.specs.declared.words.Block.{Block}
-use Rattle.finding.specs.Finding.{firstBlock}
+use Rattle.finding.specs.Finding.{firstBlock, blockAt, nextBlock}
+use Rattle.finding.specs.declared.BlockAt.{BlockAt}
+use Rattle.finding.specs.declared.NextBlock.{NextBlock}
+use Rattle.finding.specs.declared.NextBlock.the-variants as found
 use Rattle.finding.specs.declared.Found.{Found}
 use Rattle.finding.specs.declared.Found.the-variants.{At, Nowhere}
 use Rattle.state.specs.declared.modal.State.{State}
@@ -33,6 +41,7 @@ use Rattle.settings.specs.declared.control.Settings.{Settings}
 use Rattle.machine.specs.declared.BlockDone.{BlockDone}
 use Rattle.machine.specs.declared.BlockOutcome.{BlockOutcome}
 use Rattle.machine.specs.declared.BlockOutcome.the-variants.{Refused, Done}
+use Rattle.machine.proofs.Wordless.{wordless-records, wordless-done}
 use Rattle.machine.proofs.Running.{WasDone, was-refused, was-done, nothing-written, done-few, done-recorded, sound-after}
 use Rattle.ahead.specs.declared.Frame.{Frame}
 use Rattle.ahead.specs.declared.Onward.{Onward}
@@ -40,9 +49,9 @@ use Rattle.ahead.specs.declared.Onward.the-variants.{On, Call, Jump, Return, En
 use Rattle.steps.specs.declared.step.Run.{Run}
 use Rattle.steps.specs.declared.step.StepDone.{StepDone}
 use Rattle.ahead.specs.Ahead.{onto, lookedUp}
-use Rattle.steps.specs.Steps.{Task, blockIn, blockOn, onwardBy, onwardOf, alarmBy, alarmAt, runAfter, doneAt, recordsAt, Taken, takenBy, takenFrom}
-use Rattle.steps.specs.Meets.{Fit, Needs, Goes, Wrote, StepMeets, BlockMeets}
-use Rattle.ahead.proofs.Places.{FoundIn, first-on, OnwardOn, looked-on}
+use Rattle.steps.specs.Steps.{Task, blockIn, blockOn, onwardBy, onwardOf, alarmBy, alarmAt, runAfter, doneAt, recordsAt, passedBy, Taken, takenBy, takenFrom}
+use Rattle.steps.specs.Meets.{Fit, Needs, Starts, Stands, Goes, Wrote, StepMeets, BlockMeets}
+use Rattle.ahead.proofs.Places.{OnwardOn, looked-on}
 
 -- ---- the words of a line
 by-length : (t : Bool) (b c : Block) → Worded b → Worded c → Worded (cond t b c)
@@ -52,6 +61,20 @@ by-length false b c h k = k
 none-worded : Worded noWords
 unfolding gapOf nextWord gather lineOf
 none-worded = worded []
+
+-- ---- the words behind the first
+module _ (line : List ℕ) (behind : ℕ) (s : Starts line behind) where
+  pub words-behind : length line ≤ longestLine → gather noWords (wordsFrom line behind) .block ≡ blockIn line
+  unfolding blockIn
+  words-behind h = sym (rw (le-ltb longestLine (length line) h) (ap (λ (x : ReadLine). x .block) (line-from line ∙ ap (lineFrom line) (s .is))))
+
+  pub words-bare : length line ≤ behind → blockIn line ≡ noWords
+  unfolding blockIn
+  words-bare h = by (ltb longestLine (length line))
+    where
+      by : (t : Bool) → cond t noWords (lineOf line .block) ≡ noWords
+      by true = refl
+      by false = ap (λ (x : ReadLine). x .block) (line-from line ∙ ap (lineFrom line) (s .is)) ∙ ap (λ (x : Rest). x .block) (rest-none line behind (s .within) noWords h)
 
 pub worded-in : (line : List ℕ) → Worded (blockIn line)
 unfolding blockIn
@@ -75,6 +98,20 @@ pub some-left : (tape : List ℕ) (set : Settings) (first : ℕ) (f : Frame) (le
 unfolding onwardBy alarmBy
 some-left tape set first f zero b e = absurd (omega (arith, e))
 some-left tape set first f (suc n) b e = omega arith
+
+-- one without words goes on
+request-none : requestOf noWords ≡ next.On
+unfolding noWords has gIn mIn steered flowBy requestOf
+request-none = refl
+
+onward-none : (tape : List ℕ) (set : Settings) (first : ℕ) (f : Frame) (left : ℕ) (b : Block) → b ≡ noWords → 0 < left → onwardBy tape set first f left b ≡ On
+unfolding onwardBy lookedUp
+onward-none tape set first f left b e some =
+    rw (ne-eqb left 0 (λ z. absurd (omega (arith, some, z)))) (ap (λ (x : Block). lookedUp tape set first f (requestOf x)) e ∙ ap (lookedUp tape set first f) request-none)
+
+quiet-on : alarmBy On ≡ 0
+unfolding alarmBy
+quiet-on = refl
 
 goes-of : (t : Task) (r s : Run) (v : List Record) (w : Onward) → OnwardOn (length (t .tape)) w → alarmBy w ≡ 0 → s .«blocks_left» < r .«blocks_left» → Goes t r s v w
 unfolding alarmBy
@@ -200,14 +237,67 @@ module _ (t : Task) (b : List ℕ) (f : Frame) (r : Run) (n : Needs t (length b)
             after = k;
           }
 
--- ---- the words of the line at a place, as they were read
-pub words-are : (tape : List ℕ) (at : ℕ) {l : Line} → l ≡ lineAt tape at → {b : Block} → b ≡ blockIn (take (l .stop - at) (drop at tape)) → b ≡ blockOn tape at
-unfolding blockOn
-words-are tape at e h = h ∙ ap (λ (x : Line). blockIn (take (x .stop - at) (drop at tape))) e
+-- ---- the words of the line that was found, as they were read
+module _ (tape : List ℕ) (f : Frame) {l : BlockAt} (s : Stands tape f l) where
+  pub words-are : {b : Block} → b ≡ blockIn (take (l .stop - f .at) (drop (f .at) tape)) → b ≡ blockOn tape (f .at)
+  unfolding blockOn
+  words-are h = h ∙ ap (λ (x : BlockAt). blockIn (take (x .stop - f .at) (drop (f .at) tape))) (s .is)
+
+  pub same-place : l .at ≡ f .at
+  same-place = ap (λ (x : BlockAt). x .at) (s .is)
+
+  pub same-after : l .after ≡ lineAt tape (f .at) .after
+  same-after = ap (λ (x : BlockAt). x .after) (s .is)
+
+  pub behind-number : Starts (take (l .stop - f .at) (drop (f .at) tape)) (l .behind)
+  behind-number = record {
+    head = BlockLine (s .known .number);
+    is = ap (λ (x : BlockAt). startOf (take (x .stop - f .at) (drop (f .at) tape))) (s .is) ∙ sym (ap (λ (x : BlockAt). startOf (textAt tape (x .at) .bytes)) (s .is)) ∙ s .known .starts;
+    within = omega (arith, same-place, s .known .begins, s .known .text, length-take (l .stop - f .at) (drop (f .at) tape), length-drop (f .at) tape);
+  }
+
+  -- where nothing stands behind the number there are no words
+  pub wordless : l .stop ≤ l .at + l .behind → blockOn tape (f .at) ≡ noWords
+  wordless h =
+      let line = take (l .stop - f .at) (drop (f .at) tape) in
+      sym (words-are (sym (words-bare line (l .behind) behind-number (omega (arith, same-place, h, length-take (l .stop - f .at) (drop (f .at) tape))))))
+
+-- ---- a block without words is passed
+pub passed : (t : Task) (b : List ℕ) (f : Frame) (r : Run) → Needs t (length b) f r → blockOn (t .tape) (f .at) ≡ noWords → 0 < r .«blocks_left»
+    → {after : ℕ} → after ≡ lineAt (t .tape) (f .at) .after → after ≤ length (t .tape) → BlockMeets t b f r (passedBy r after) b
+unfolding rowBytes
+passed t b f r n e some h k =
+    let on : onwardOf t f r ≡ On = onward-none (t .tape) (t .settings) (t .first) f (r .«blocks_left») (blockOn (t .tape) (f .at)) e some in
+    let is = ap (λ (x : Block). outcomeOf (t .table) (t .settings) (r .state) x (t .room) (r .count)) e ∙ wordless-done (t .table) (t .settings) (r .state) (n .fit .sound) (t .room) (r .count) in
+    let none = ap (λ (x : Block). blockRecords (t .table) (t .settings) (r .state) x (t .room - r .count)) e ∙ wordless-records (t .table) (t .settings) (r .state) (n .fit .sound) (t .room - r .count) in
+    went t b f r n (ap alarmBy on ∙ quiet-on) is (sym (laid-nil b (recordStart (r .count))) ∙ ap (λ (v : List Record). laid b (recordStart (r .count)) (rowBytes v)) (sym none)) h k (sym on) refl
 
 -- ---- a step: the next block that was found, or the program's end
-pub found-at : (tape : List ℕ) (from : ℕ) {f : Found} {p : ℕ} → f ≡ firstBlock (lines tape from) → f ≡ At p → p ≤ length tape
-found-at tape from {p = p} e h = let l = subst (FoundIn (length tape)) (sym e ∙ h) (first-on tape from) in omega (arith, l)
+abbrev IsAt : NextBlock → Type 0
+IsAt (found.At l) = Unit {0}
+IsAt found.Nowhere = ⊥
+
+abbrev lineOr : BlockAt → NextBlock → BlockAt
+lineOr l (found.At k) = k
+lineOr l found.Nowhere = l
+
+-- what was found is the first block, and the line at its place
+pub found-none : (tape : List ℕ) (g : Found) {x : NextBlock} → x ≡ nextBlock tape g → x ≡ found.Nowhere → g ≡ Nowhere
+unfolding nextBlock
+found-none tape Nowhere e h = refl
+found-none tape (At p) e h = absurd (subst IsAt (sym e ∙ h) tt)
+
+pub found-line : (tape : List ℕ) (g : Found) {x : NextBlock} {l : BlockAt} → x ≡ nextBlock tape g → x ≡ found.At l → (l ≡ blockAt tape (l .at)) × (g ≡ At (l .at))
+unfolding nextBlock
+found-line tape Nowhere e h = absurd (subst IsAt (sym h ∙ e) tt)
+found-line tape (At p) {l = l} e h =
+    let q : blockAt tape p ≡ l = ap (lineOr l) (sym e ∙ h) in
+    let at : p ≡ l .at = ap (λ (k : BlockAt). k .at) q in
+    (sym q ∙ ap (blockAt tape) at, ap At at)
+
+pub both : (a b : Bool) → (a && b) ≡ true → (a ≡ true) × (b ≡ true)
+both true b e = (refl, e)
+both false b e = absurd (subst T (sym e) tt)
 
 pub found-needs : {t : Task} {bytes p : ℕ} {f : Frame} {r : Run} → Needs t bytes f r → p ≤ length (t .tape) → Needs t bytes (onto f p) r
 found-needs n h = record { ready = n .ready; fit = n .fit; line = n .line; here = h }

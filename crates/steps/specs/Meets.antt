@@ -7,6 +7,11 @@ use Rattle.whole.specs.Bytes.{laid}
 use Rattle.moves.specs.Form.{headerSize, recordStart, rowBytes}
 use Rattle.moves.specs.declared.record.Record.{Record}
 use Rattle.settings.specs.Known.{Table, InRange}
+use Rattle.block.specs.Words.{startOf}
+use Rattle.block.specs.declared.words.Head.{Head}
+use Rattle.block.specs.declared.words.LineStart.the-variants.{With}
+use Rattle.finding.specs.Finding.{blockAt, BlockIn}
+use Rattle.finding.specs.declared.BlockAt.{BlockAt}
 use Rattle.state.specs.Known.{Sound}
 use Rattle.ahead.specs.declared.Frame.{Frame}
 use Rattle.ahead.specs.declared.Onward.{Onward}
@@ -34,6 +39,17 @@ pub record Needs (t : Task) (bytes : ℕ) (f : Frame) (r : Run) : Type 0 where
   pub fit : Fit t r
   pub line : f .program ≤ length (t .tape)
   pub here : f .at ≤ length (t .tape)
+
+-- a line whose first word ends at `behind`
+pub record Starts (line : List ℕ) (behind : ℕ) : Type 0 where
+  pub head : Head
+  pub is : startOf line ≡ With head behind
+  pub within : behind ≤ length line
+
+-- the block line at the frame's place, as it was found
+pub record Stands (tape : List ℕ) (f : Frame) (l : BlockAt) : Type 0 where
+  pub is : l ≡ blockAt tape (f .at)
+  pub known : BlockIn tape l
 
 -- ---- after it
 -- the places that the runner goes to lie on the tape, a block that was done leaves one fewer to begin, and a refused one has written nothing

@@ -89,6 +89,10 @@ doneAt t f r =
 unfoldable pub recordsAt : Task → Frame → Run → List Record
 recordsAt t f r = cond (eqb (alarmAt t f r) 0) (doneRecords (t .table) (t .settings) (r .state) (blockOn (t .tape) (f .at))) []
 
+-- what comes of a block without words: the run goes on behind it, with one block fewer to begin
+abbrev pub passedBy : Run → ℕ → StepDone
+passedBy r after = record { onward = On; run = record { state = r .state; «blocks_left» = r .«blocks_left» - 1; count = r .count }; after = after }
+
 -- ---- A STEP of a run: a block, by its place on the tape, the run in which it was begun, and the records that it wrote
 pub record Step : Type 0 where
   pub place : ℕ

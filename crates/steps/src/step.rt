@@ -2,15 +2,16 @@
 use ahead::Frame;
 use ahead::Onward;
 use block::words::Block;
-use finding::Found;
+use finding::BlockAt;
+use finding::NextBlock;
 use machine::BlockOutcome;
 use settings::control::Settings;
 use state::modal::State;
 ghost use mathlib.Core.Path.{_≡_};
-ghost use Prim.Native.Nat.{_≤_};
+ghost use Prim.Native.Nat.{_≤_, _<_};
 ghost use lib.ListN.{length};
-ghost use Rattle.steps.specs.Steps.{taskOf, blockIn, onwardBy, alarmBy};
-ghost use Rattle.steps.specs.Meets.{Needs, StepMeets, BlockMeets};
+ghost use Rattle.steps.specs.Steps.{taskOf, blockIn, onwardBy, alarmBy, passedBy};
+ghost use Rattle.steps.specs.Meets.{Needs, Starts, Stands, StepMeets, BlockMeets};
 
 // A run between two blocks: the machine's state, how many blocks may still be begun, and how many records are written.
 pub struct Run {
@@ -40,15 +41,16 @@ fn alarm_by(onward: Onward) -> u8
     }
 }
 
-// The words of a block line.
-fn words_of(line: &[u8]) -> Block
+// The words of a block line, behind its block number.
+fn words_of(line: &[u8], behind: usize) -> Block
+    requires { ⌜ Starts (now line) behind ⌝ }
     ensures { λ r. ⌜ r ≡ blockIn (now (line .entry)) ⌝ }
 {
     if line.len() > block::words::LONGEST_LINE {
         return block::words::no_words();
     }
-    let reading = block::words::read_line(line);
-    reading.block
+    let rest = block::words::read_rest(line, behind);
+    rest.block
 }
 
 // What the block at the frame's place asks of the runner, where so many blocks may still begin: alarms 13, 14, 10, 11 and 12.
@@ -63,7 +65,7 @@ fn onward_of(tape: &[u8], set: Settings, first: usize, frame: Frame, left: u32, 
     ahead::look_up(tape, set, first, frame, next)
 }
 
-// Does the block of the line at the frame's place.
+// Does the block of a line that was found, which is the one at the frame's place.
 fn do_block(
     tape: &[u8],
     table: &[i32],
@@ -71,17 +73,17 @@ fn do_block(
     first: usize,
     buf: &mut [u8],
     frame: Frame,
+    line: BlockAt,
     run: Run,
 ) -> StepDone
-    requires { ⌜ Needs (taskOf (now tape) (now table) set first (length (now buf))) (length (now buf)) frame run ⌝ }
+    requires { ⌜ Needs (taskOf (now tape) (now table) set first (length (now buf))) (length (now buf)) frame run × Stands (now tape) frame line ⌝ }
     ensures { λ r. ⌜ BlockMeets (taskOf (now (tape .entry)) (now (table .entry)) set first (length (now (buf .entry)))) (now (buf .entry)) frame run r (now (buf .exit)) ⌝ }
 {
     let at = frame.at;
-    let line = tape::line::line_at(tape, at);
     let stop = line.stop;
     let after = line.after;
     let left = run.blocks_left;
-    let b = words_of(&tape[at..stop]);
+    let b = words_of(&tape[at..stop], line.behind);
     let onward = onward_of(tape, set, first, frame, left, b);
     let asked = alarm_by(onward);
     if asked != 0 {
@@ -116,6 +118,25 @@ fn do_block(
     }
 }
 
+// Passes a block that has no words: it changes nothing but how many blocks may still be begun.
+fn pass_block(run: Run, after: usize) -> StepDone
+    requires { ⌜ 0 < run .«blocks_left» ⌝ }
+    ensures { λ r. ⌜ r ≡ passedBy run after ⌝ }
+{
+    let state = run.state;
+    let fewer = run.blocks_left - 1;
+    let then = Run {
+        state,
+        blocks_left: fewer,
+        count: run.count,
+    };
+    StepDone {
+        onward: Onward::On,
+        run: then,
+        after,
+    }
+}
+
 // Takes a step from the line at the frame's place on.
 pub fn take_step(
     tape: &[u8],
@@ -130,20 +151,24 @@ pub fn take_step(
     ensures { λ r. ⌜ StepMeets (taskOf (now (tape .entry)) (now (table .entry)) set first (length (now (buf .entry)))) (now (buf .entry)) frame run r (now (buf .exit)) ⌝ }
 {
     let from = frame.at;
-    let found = finding::next_block(tape, from);
-    match found {
-        Found::Nowhere => StepDone {
+    let next = finding::next_block(tape, from);
+    match next {
+        NextBlock::Nowhere => StepDone {
             onward: Onward::Stop(alarms::WRONG_END, frame.program),
             run,
             after: from,
         },
-        Found::At(at) => {
+        NextBlock::At(line) => {
+            let bare = line.stop <= line.at + line.behind;
+            if bare & (0 < run.blocks_left) {
+                return pass_block(run, line.after);
+            }
             let there = Frame {
                 program: frame.program,
                 calls_left: frame.calls_left,
-                at,
+                at: line.at,
             };
-            do_block(tape, table, set, first, buf, there, run)
+            do_block(tape, table, set, first, buf, there, line, run)
         }
     }
 }

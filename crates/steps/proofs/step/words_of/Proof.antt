@@ -1,8 +1,10 @@
 -- `steps::step::words_of` meets its contract.
-use mathlib.Core.Path.{_∙_}
+use mathlib.Core.Path.{ap, _∙_}
 use borrow.Author.Needs.{needs}
-use borrow.Author.Tests.{lt-ltb, le-ltb}
+use borrow.Author.Tests.{lt-ltb}
+use Rattle.block.specs.declared.words.Rest.{Rest}
 use Rattle.steps.specs.Steps.{blockIn}
+use Rattle.steps.proofs.Stepping.{words-behind}
 use Rattle.steps.proofs.step.words_of.Statement.{statement}
 use Rattle.steps.proofs.step.words_of.Tie as tie
 
@@ -13,12 +15,14 @@ returns : tie.Need-returns
 unfolding blockIn
 returns c = c .no-words .ensures ∙ rw (lt-ltb _ _ (c .before .if1 .taken))
 
-read-line-requires : tie.Need-read-line-requires
-read-line-requires c κs = search needs
+read-rest-requires : tie.Need-read-rest-requires
+read-rest-requires c κs = (c .before .before .pre .within, c .if1 .left)
 
 returns-2 : tie.Need-returns-2
-unfolding blockIn
-returns-2 c = rw (c .before .read-line .ensures, le-ltb _ _ (c .before .before .if1 .left))
+returns-2 c =
+    let e = c .before .before in
+    let s = e .before .before in
+    ap (λ (x : Rest). x .block) (c .before .read-rest .ensures) ∙ words-behind (s .args .line .now) (s .args .behind) (s .pre) (e .if1 .left)
 
 pub words-of-spec : {M : Type 1} → statement M
-words-of-spec = tie.close (tie.spec no-words-requires returns read-line-requires returns-2)
+words-of-spec = tie.close (tie.spec no-words-requires returns read-rest-requires returns-2)
