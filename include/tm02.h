@@ -98,7 +98,7 @@ enum {
    pointer is null, not even where its length is 0; each points to as many elements as its length says; table and settings are aligned as int32_t; the buffer overlaps none of the other
    three; and nothing else writes to any of them, or reads the buffer, during the call.
 
-   The call takes no heap and has no data of its own. It took 99,439 bytes of stack ten calls deep, measured with the archive of this version: give it 128 KiB. A run ends after 20,000
+   The call takes no heap and has no data of its own. It took 39,272 bytes of stack ten calls deep, measured with the archive of this version: give it 64 KiB. A run ends after 20,000
    blocks at the latest, but a block that jumps or calls searches its program or the tape: do not call it from an interrupt. */
 uint64_t tm02_interpret(const uint8_t *tape, size_t tape_len, const int32_t *table, size_t table_len,
                         const int32_t *settings, size_t settings_len, uint8_t *buf, size_t buf_len);

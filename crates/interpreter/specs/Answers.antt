@@ -13,6 +13,7 @@ use Rattle.moves.specs.Form.{headerSize, recordStart, rowBytes}
 use Rattle.tape.specs.Lines.{lines}
 use Rattle.finding.specs.Finding.{findProgram}
 use Rattle.reading.specs.Reading.{readOf}
+use Rattle.reading.specs.Reading as reads
 use Rattle.finding.specs.declared.Found.{Found}
 use Rattle.finding.specs.declared.Found.the-variants.{At, Nowhere}
 use Rattle.reading.specs.declared.read.Read.{Read}
@@ -58,7 +59,7 @@ readThen tape table set bytes (read.Whole first end) = mainRun (taskOf (take end
 
 -- "tape above 65,535 bytes"
 abbrev pub longestTape : ℕ
-longestTape = 65_535
+longestTape = reads.longestTape
 
 -- THE WHOLE: tape, table, settings, and the length of the buffer
 unfoldable pub interpretation : List ℕ → List ℤ → Settings → ℕ → Result

@@ -12,8 +12,6 @@ ghost use Rattle.steps.specs.Steps.{taskOf};
 ghost use Rattle.interpreter.specs.Answers.{mainRun, laidBy, ReadIn, readThen, answerOf, bufferOf};
 ghost use Rattle.settings.specs.Known.{Right};
 
-const LONGEST_TAPE: usize = 65_535;
-
 // Runs the main program of a tape that was read, and writes the header where the list is complete.
 fn run_main(tape: &[u8], table: &[i32], set: Settings, first: usize, buf: &mut [u8]) -> Answer
     requires { ⌜ (first ≤ length (now tape)) × Right (now table) set × (headerSize ≤ length (now buf)) ⌝ }
@@ -62,7 +60,7 @@ pub fn interpret(tape: &[u8], table: &[i32], set: Settings, buf: &mut [u8]) -> A
     if settings::control::settings_wrong(table, set) {
         return Answer::Alarm(alarms::BAD_SETTINGS, 0, 0);
     }
-    if tape.len() > LONGEST_TAPE {
+    if tape.len() > reading::read::LONGEST_TAPE {
         return Answer::Alarm(alarms::TAPE_TOO_LONG, 0, 0);
     }
     if buf.len() < moves::HEADER_SIZE {

@@ -65,6 +65,10 @@ fn print(name: &[u8], verb: &[u8], first: usize, joint: &[u8], second: usize) {
 
 // Reads a tape and writes what came of it.
 fn show(name: &[u8], tape: &[u8]) {
+    if tape.len() > reading::read::LONGEST_TAPE {
+        print(name, b" ALARM ", wide(alarms::TAPE_TOO_LONG), b" at ", 0);
+        return;
+    }
     let read = reading::read::read_tape(tape);
     match read {
         Read::Whole(first, end) => print(name, b" read ", first, b" to ", end),

@@ -16,6 +16,10 @@ use Rattle.block.specs.declared.words.Head.the-variants.{Blank, ProgramLine, Bl
 use Rattle.reading.specs.declared.read.Read.{Read}
 use Rattle.reading.specs.declared.read.Read.the-variants.{Whole, Alarm}
 
+-- "tape above 65,535 bytes" is alarm 2, and is not read
+abbrev pub longestTape : ℕ
+longestTape = 65_535
+
 -- what was read so far: the program numbers, and the block numbers of the present program
 pub record History : Type 0 where
   pub programs : List ℕ

@@ -2,15 +2,26 @@
 // a flag for each program number, and for each block number the mark of the program in which it was last seen.
 use block::words::Head;
 ghost use mathlib.Core.Path.{_≡_};
-ghost use Prim.Native.Nat.{_<_};
+ghost use Prim.Native.Nat.{_+_, _≤_, _<_};
 ghost use lib.ListN.{length};
 ghost use Rattle.tape.specs.Lines.{lines};
-ghost use Rattle.reading.specs.Reading.{nothingRead, readLines, readOf};
+ghost use Rattle.reading.specs.Reading.{longestTape, nothingRead, readLines, readOf};
 
 // The place of the first line and the place behind the last line that is read; or an alarm and the first byte of its line (0 where there is no line).
 pub enum Read {
     Whole(usize, usize),
     Alarm(u8, usize),
+}
+
+// The longest tape that is read (alarm 2).
+pub const LONGEST_TAPE: usize = 65_535;
+
+// The mark of a program: the place of its line and one more, so that no two programs have the same, and none has 0. A tape that is not too long has no place that 16 bits do not hold.
+fn mark_of(place: usize) -> u16
+    requires { ⌜ place < longestTape ⌝ }
+    ensures { λ r. ⌜ r ≡ place + 1 ⌝ }
+{
+    (place + 1) as u16
 }
 
 fn wide(n: u32) -> usize
@@ -21,13 +32,12 @@ fn wide(n: u32) -> usize
 
 // The lines from `first` on.
 fn read_lines(tape: &[u8], first: usize) -> Read
-    requires { ⌜ first < length (now tape) ⌝ }
+    requires { ⌜ (first < length (now tape)) × (length (now tape) ≤ longestTape) ⌝ }
     ensures { λ r. ⌜ r ≡ readLines first (length (now (tape .entry))) nothingRead (lines (now (tape .entry)) first) ⌝ }
 {
     let mut programs = [false; 7000];
-    let mut blocks = [0usize; 10000];
-    // the mark of a program: the place of its line and one more, so that no two programs have the same, and none has 0
-    let mut mark = first + 1;
+    let mut blocks = [0u16; 10000];
+    let mut mark = mark_of(first);
     let mut p = first;
     loop {
         if p >= tape.len() {
@@ -61,7 +71,7 @@ fn read_lines(tape: &[u8], first: usize) -> Read
                     return Read::Alarm(alarms::WORD_RULES, p);
                 }
                 programs[k] = true;
-                mark = p + 1;
+                mark = mark_of(p);
                 p = after;
             }
             Head::BlockLine(n) => {
@@ -82,8 +92,9 @@ fn read_lines(tape: &[u8], first: usize) -> Read
     }
 }
 
-// A whole tape, whatever its bytes are and however many (alarm 2 is judged before).
+// A whole tape, whatever its bytes are. That it is not too long was judged before (alarm 2).
 pub fn read_tape(tape: &[u8]) -> Read
+    requires { ⌜ length (now tape) ≤ longestTape ⌝ }
     ensures { λ r. ⌜ r ≡ readOf (now (tape .entry)) ⌝ }
 {
     let first = tape::line::first_line(tape);

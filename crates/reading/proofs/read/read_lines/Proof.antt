@@ -29,13 +29,13 @@ module _ (e : tie.Else2 Inv-loop μ-loop) where
   further : e .before .before .before .before .before .loop .p < e .before .before .before .line-at .result .after
   further = let a = e .before .before .before in a .line-at .ensures .1 .onward (a .before .if1 .left)
 
-  within : e .before .before .before .line-at .result .after ≤ length (e .before .before .before .before .before .before .before .args .tape .now)
+  within : e .before .before .before .line-at .result .after ≤ length (e .before .before .before .before .before .before .before .before .args .tape .now)
   within = e .before .before .before .line-at .ensures .1 .ends
 
   refused-as : (head : Head) → e .before .judge-line .result .head ≡ head → (n : ℕ)
       → headAlarm (e .before .before .before .before .before .loop .inv .history) head (e .before .judge-line .result .broken) ≡ suc n
       → Alarm (suc n) (e .before .before .before .before .before .loop .p)
-      ≡ whole (e .before .before .before .before .before .before .before .args .tape .now) (e .before .before .before .before .before .before .before .args .first)
+      ≡ whole (e .before .before .before .before .before .before .before .before .args .tape .now) (e .before .before .before .before .before .before .before .before .args .first)
   refused-as head is n a =
       let k = e .before in
       let m = k .before .before in
@@ -44,18 +44,20 @@ module _ (e : tie.Else2 Inv-loop μ-loop) where
   onward-as : (head : Head) → e .before .judge-line .result .head ≡ head
       → headAlarm (e .before .before .before .before .before .loop .inv .history) head (e .before .judge-line .result .broken) ≡ 0
       → endsWith head (e .before .judge-line .result .ends) ≡ false
-      → whole (e .before .before .before .before .before .before .before .args .tape .now) (e .before .before .before .before .before .before .before .args .first)
-      ≡ readLines (e .before .before .before .before .before .before .before .args .first) (length (e .before .before .before .before .before .before .before .args .tape .now)) (noted (e .before .before .before .before .before .loop .inv .history) head) (lines (e .before .before .before .before .before .before .before .args .tape .now) (e .before .before .before .line-at .result .after))
+      → whole (e .before .before .before .before .before .before .before .before .args .tape .now) (e .before .before .before .before .before .before .before .before .args .first)
+      ≡ readLines (e .before .before .before .before .before .before .before .before .args .first) (length (e .before .before .before .before .before .before .before .before .args .tape .now)) (noted (e .before .before .before .before .before .loop .inv .history) head) (lines (e .before .before .before .before .before .before .before .before .args .tape .now) (e .before .before .before .line-at .result .after))
   onward-as head is a f =
       let k = e .before in
       let m = k .before .before in
       onward (m .before .before .loop .inv) (m .before .if1 .left) (m .line-at .result) (m .line-at .ensures .0) (k .judge-line .result) (k .judge-line .ensures) (e .if2 .left) head is a f
 
-add-mark : tie.Need-add-mark Inv-loop μ-loop
-add-mark c = omega arith
+mark-of-requires : tie.Need-mark-of-requires Inv-loop μ-loop
+mark-of-requires c κs = let s = c .before in omega (arith, s .pre .0, s .pre .1)
 
 loop-holds : tie.Need-loop-holds Inv-loop μ-loop
-loop-holds c = starts (c .before .args .tape .now) (c .before .args .first) (omega arith)
+loop-holds c =
+    let a = c .before .before .args in
+    subst (λ (m : ℕ). Going (a .tape .now) (a .first) _ _ m (a .first)) (sym (c .mark-of .ensures)) (starts (a .tape .now) (a .first) (omega arith))
 
 returns : tie.Need-returns Inv-loop μ-loop
 returns c = sym (at-end (c .before .loop .inv) (c .if1 .taken))
@@ -133,26 +135,31 @@ returns-6 c =
 array-write-programs : tie.Need-array-write-programs Inv-loop μ-loop
 array-write-programs c = omega arith
 
-add-mark-2 : tie.Need-add-mark-2 Inv-loop μ-loop
-add-mark-2 c = omega arith
+mark-of-requires-2 : tie.Need-mark-of-requires-2 Inv-loop μ-loop
+mark-of-requires-2 c κs =
+    let e = c .before .before .before .before .before .before .before in
+    let m = e .before .before .before in
+    omega (arith, m .before .if1 .left, e .before .before .before .before .before .before .before .before .pre .1)
 
 loop-less-2 : tie.Need-loop-less-2 Inv-loop μ-loop
-loop-less-2 c = let e = c .before .before .before .before .before .before .before in omega (arith, further e, within e)
+loop-less-2 c = let e = c .before .before .before .before .before .before .before .before in omega (arith, further e, within e)
 
 loop-again-2 : tie.Need-loop-again-2 Inv-loop μ-loop
 loop-again-2 c =
-    let w = c .before .before in
+    let w = c .before .before .before in
     let h = w .before .before .before in
     let e = h .before .before in
     let l = e .before .before .before .before .before in
     let g = l .loop .inv in
     let n = h .head .given .0 .0 in
     let after = e .before .before .before .line-at .result .after in
-    subst (λ (m : ℕ). Going (l .before .before .args .tape .now) (l .before .before .args .first) (set (l .loop .programs) m true) (l .loop .blocks) (l .loop .p + 1) after) (sym (w .wide .ensures))
+    let a = l .before .before .before .args in
+    subst (λ (m : ℕ). Going (a .tape .now) (a .first) (set (l .loop .programs) (w .wide .result) true) (l .loop .blocks) m after) (sym (c .mark-of2 .ensures))
+    (subst (λ (m : ℕ). Going (a .tape .now) (a .first) (set (l .loop .programs) m true) (l .loop .blocks) (l .loop .p + 1) after) (sym (w .wide .ensures))
     (past-program g after (further e) (within e) n (w .before .if3 .left)
     (onward-as e (ProgramLine n) (h .head .given .1)
-    (program-new g n (e .before .judge-line .result .broken) (w .before .if3 .left) (flag-of w (c .before .if4 .left)) ∙ ap (λ (t : Bool). cond t wordRules 0) (c .if5 .left))
-    (program-on n (e .before .judge-line .result .ends))))
+    (program-new g n (e .before .judge-line .result .broken) (w .before .if3 .left) (flag-of w (c .before .before .if4 .left)) ∙ ap (λ (t : Bool). cond t wordRules 0) (c .before .if5 .left))
+    (program-on n (e .before .judge-line .result .ends)))))
 
 -- ---- a block line
 -- its number has at most four digits, and is an index of the table
@@ -231,7 +238,7 @@ loop-again-3 c =
     let g = l .loop .inv in
     let n = h .head2 .given .0 .0 in
     let after = e .before .before .before .line-at .result .after in
-    subst (λ (m : ℕ). Going (l .before .before .args .tape .now) (l .before .before .args .first) (l .loop .programs) (set (l .loop .blocks) m (l .loop .mark)) (l .loop .mark) after) (sym (w .wide2 .ensures))
+    subst (λ (m : ℕ). Going (l .before .before .before .args .tape .now) (l .before .before .before .args .first) (l .loop .programs) (set (l .loop .blocks) m (l .loop .mark)) (l .loop .mark) after) (sym (w .wide2 .ensures))
     (past-block g after (further e) (within e) n (small w)
     (onward-as e (BlockLine n) (h .head2 .given .1)
     (block-new g n (e .before .judge-line .result .broken) (mark-of w (λ x. x ≡ l .loop .mark → ⊥) (c .before .before .if6 .left))
@@ -244,7 +251,7 @@ read-lines-spec =
     (tie.spec
     Inv-loop
     μ-loop
-    add-mark
+    mark-of-requires
     loop-holds
     returns
     line-at-requires
@@ -265,7 +272,7 @@ read-lines-spec =
     returns-5
     returns-6
     array-write-programs
-    add-mark-2
+    mark-of-requires-2
     loop-less-2
     loop-again-2
     (λ c. search needs)
