@@ -78,12 +78,11 @@ pub fn target_x(s: State, b: Block, offset: i32) -> i32
     ensures { λ r. ⌜ r ≡ targetX s b offset ⌝ }
 {
     let x = s.x;
-    let present = Position { um: x };
     if block::words::has(b, block::words::X) {
-        return place_or(Position::from_word(b.value[block::words::X], offset), x);
+        return place_or(Position::from_x_word(b.value[block::words::X], offset), x);
     }
     if block::words::has(b, block::words::U) {
-        return place_or(present.moved_by_u(b.value[block::words::U]), x);
+        return place_or(Position::moved_by_u(x, b.value[block::words::U]), x);
     }
     x
 }
@@ -94,12 +93,11 @@ pub fn target_z(s: State, b: Block, offset: i32) -> i32
     ensures { λ r. ⌜ r ≡ targetZ s b offset ⌝ }
 {
     let z = s.z;
-    let present = Position { um: z };
     if block::words::has(b, block::words::Z) {
-        return place_or(Position::from_word(b.value[block::words::Z], offset), z);
+        return place_or(Position::from_z_word(b.value[block::words::Z], offset), z);
     }
     if block::words::has(b, block::words::W) {
-        return place_or(present.moved_by_w(b.value[block::words::W]), z);
+        return place_or(Position::moved_by_w(z, b.value[block::words::W]), z);
     }
     z
 }

@@ -44,26 +44,38 @@ impl Position {
         Placed::At(Position { um: v as i32 })
     }
 
-    // The target of an X or a Z word.
-    pub fn from_word(word: i32, offset: i32) -> Placed
+    // The sum of two numbers of an axis.
+    fn sum(a: i32, b: i32) -> Placed
+        ensures { λ r. ⌜ r ≡ placed (a +ℤ b) ⌝ }
+    {
+        Position::place((a as i64) + (b as i64))
+    }
+
+    // The target of an X word: a diameter, as the offset is.
+    pub fn from_x_word(word: i32, offset: i32) -> Placed
         ensures { λ r. ⌜ r ≡ placed (word +ℤ offset) ⌝ }
     {
-        Position::place((word as i64) + (offset as i64))
+        Position::sum(word, offset)
     }
 
-    // The target of a W word, from a position of the Z axis: the same sum.
-    pub fn moved_by_w(self, w: i32) -> Placed
-        ensures { λ r. ⌜ r ≡ placed (self .um +ℤ w) ⌝ }
+    // The target of a Z word.
+    pub fn from_z_word(word: i32, offset: i32) -> Placed
+        ensures { λ r. ⌜ r ≡ placed (word +ℤ offset) ⌝ }
     {
-        let um = self.um;
-        Position::from_word(um, w)
+        Position::sum(word, offset)
     }
 
-    // The target of a U word, from a position of the X axis. U is per side and counts double on the diameter.
-    pub fn moved_by_u(self, u: i32) -> Placed
-        ensures { λ r. ⌜ r ≡ placed (self .um +ℤ pos 2 *ℤ u) ⌝ }
+    // The target of a U word, from where the X axis stands. U is per side and counts double on the diameter.
+    pub fn moved_by_u(present: i32, u: i32) -> Placed
+        ensures { λ r. ⌜ r ≡ placed (present +ℤ pos 2 *ℤ u) ⌝ }
     {
-        let um = self.um;
-        Position::place((um as i64) + 2 * (u as i64))
+        Position::place((present as i64) + 2 * (u as i64))
+    }
+
+    // The target of a W word, from where the Z axis stands.
+    pub fn moved_by_w(present: i32, w: i32) -> Placed
+        ensures { λ r. ⌜ r ≡ placed (present +ℤ w) ⌝ }
+    {
+        Position::sum(present, w)
     }
 }

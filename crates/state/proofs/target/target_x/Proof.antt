@@ -21,7 +21,7 @@ returns c =
     let a = s .args in
     toZ-ofZ (sfits-of {w = w32} (c .place-or .ok))
     ∙ c .place-or .ensures
-    ∙ ap (λ (p : Placed). placeOr p (toZ w32 (ofZ w32 (a .s .x)))) (c .before .from-word .ensures)
+    ∙ ap (λ (p : Placed). placeOr p (toZ w32 (ofZ w32 (a .s .x)))) (c .before .from-x-word .ensures)
     ∙ by-word (a .t2) xSlot (a .s .x) (a .offset) (going-x (a .s) (a .t2) (a .offset) (s .pre)) (pos 2 *ℤ wordIn (a .t2) uSlot) (sym (h .has .ensures) ∙ c .before .before .before .if1 .taken)
 
 returns-2 : tie.Need-returns-2

@@ -20,7 +20,7 @@ returns c =
     let a = s .args in
     toZ-ofZ (sfits-of {w = w32} (c .place-or .ok))
     ∙ c .place-or .ensures
-    ∙ ap (λ (p : Placed). placeOr p (toZ w32 (ofZ w32 (a .s .z)))) (c .before .from-word .ensures)
+    ∙ ap (λ (p : Placed). placeOr p (toZ w32 (ofZ w32 (a .s .z)))) (c .before .from-z-word .ensures)
     ∙ by-word (a .t2) zSlot (a .s .z) (a .offset) (going-z (a .s) (a .t2) (a .offset) (s .pre)) (wordIn (a .t2) wSlot) (sym (h .has .ensures) ∙ c .before .before .before .if1 .taken)
 
 returns-2 : tie.Need-returns-2

@@ -1,5 +1,5 @@
 -- `whole::position::Position::moved_by_u` meets its contract.
-use borrow.Author.Needs.{needs, sfits-of}
+use borrow.Author.Needs.{needs}
 use mathlib.Core.Path.{ap, _∙_}
 use lib.IntN.{ℤ, pos, _+ℤ_, _*ℤ_}
 use mir.Syntax.{w32, w64}
@@ -18,25 +18,25 @@ record Fit (a u : ℤ) : Type 0 where
   double : SFits w64 (pos 2 *ℤ u)
   sum : SFits w64 (a +ℤ pos 2 *ℤ u)
 
-fit : (c : tie.After-struct-told) → Fit (c .before .args .self .um) (c .before .args .u)
+fit : (c : tie.Start) → Fit (c .args .present) (c .args .u)
 fit c =
-    let a = c .before .args .self .um in
-    let u = c .before .args .u in
-    let f : SFits w32 a = sfits-of (c .struct-told .given .0 .1) in
+    let a = c .args .present in
+    let u = c .args .u in
+    let f : SFits w32 a = c .fits .present in
     record { field = f; um = omega whole; word = omega whole; double = omega (whole, up-mul 2 u, down-mul 2 u); sum = omega (whole, up-mul 2 u, down-mul 2 u, add-in a (pos 2 *ℤ u)) }
 
 cast-place : tie.Need-cast-place
 cast-place c = let f = fit c in cast-need (held (f .field)) w64 (f .um)
 
 cast-place-2 : tie.Need-cast-place-2
-cast-place-2 c = cast-need (held (c .before .fits .u)) w64 (fit c .word)
+cast-place-2 c = cast-need (held (c .fits .u)) w64 (fit c .word)
 
 -- what the locals hold
-twice : (c : tie.After-struct-told) → Holds w64 (ofZ w64 (toZ w64 (ofZ w64 (pos 2)) *ℤ toZ w64 (ofZ w64 (toZ w32 (ofZ w32 (c .before .args .u)))))) (pos 2 *ℤ c .before .args .u)
-twice c = prod (num w64 (pos 2) tt) (cast (held (c .before .fits .u)) w64 (fit c .word)) (fit c .double)
+twice : (c : tie.Start) → Holds w64 (ofZ w64 (toZ w64 (ofZ w64 (pos 2)) *ℤ toZ w64 (ofZ w64 (toZ w32 (ofZ w32 (c .args .u)))))) (pos 2 *ℤ c .args .u)
+twice c = prod (num w64 (pos 2) tt) (cast (held (c .fits .u)) w64 (fit c .word)) (fit c .double)
 
 mul-place : tie.Need-mul-place
-mul-place c = prod-need (num w64 (pos 2) tt) (cast (held (c .before .fits .u)) w64 (fit c .word)) (fit c .double)
+mul-place c = prod-need (num w64 (pos 2) tt) (cast (held (c .fits .u)) w64 (fit c .word)) (fit c .double)
 
 add-place : tie.Need-add-place
 add-place c = let f = fit c in sum-need (cast (held (f .field)) w64 (f .um)) (twice c) (f .sum)
