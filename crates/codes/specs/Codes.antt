@@ -30,14 +30,21 @@ abbrev pub look : List Row → ℕ → Code
 look [] n = Unknown
 look (r ∷ rs) n = cond (leb (r .low) n && leb n (r .high)) (Of (r .group) (r .meaning n)) (look rs n)
 
+-- the numbers of the cycles of which a promise speaks
+abbrev pub turningNumber : ℕ
+turningNumber = 84
+
+abbrev pub threadingNumber : ℕ
+threadingNumber = 85
+
 abbrev pub gRows : List Row
 gRows =
     one 0 0 (means.Moves motion.Rapid)
     ∷ one 1 0 (means.Moves motion.Feed)
     ∷ one 33 0 (means.Moves motion.Thread)
     ∷ one 4 0 (means.Moves motion.Dwell)
-    ∷ one 84 0 (means.Moves motion.Turning)
-    ∷ one 85 0 (means.Moves motion.Threading)
+    ∷ one turningNumber 0 (means.Moves motion.Turning)
+    ∷ one threadingNumber 0 (means.Moves motion.Threading)
     ∷ one 86 0 (means.Moves motion.Grooving)
     ∷ range 96 97 1 (λ n. means.CuttingSpeed (eqb n 96))
     ∷ range 94 95 2 (λ n. means.PerRevolution (eqb n 95))

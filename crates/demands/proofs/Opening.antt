@@ -10,7 +10,7 @@ use lib.IntN.{ℤ, pos, natAbs}
 use lib.ListN.{getD}
 use borrow.Author.Tests.{eqb-true}
 use Rattle.moves.specs.declared.record.Record.{Record}
-use Rattle.codes.specs.Codes.{gCode}
+use Rattle.codes.specs.Codes.{gCode, turningNumber}
 use Rattle.codes.specs.declared.meaning.Code.the-variants as code
 use Rattle.block.specs.Slots.{has, groupZeroIs, sSlot, tSlot, spindleSlot, flowSlot, coolantSlot, motionSlot, codeIn, gIn}
 use Rattle.acts.specs.Acting.{motionBy}
@@ -59,7 +59,7 @@ motion-of n m is before b h =
     ∙ ap (λ (k : ℕ). motionBy (gCode k) before) e
     ∙ is before
 
-turning-code : (before : Kept) → motionBy (gCode 84) before ≡ kept.Of motion.Turning
+turning-code : (before : Kept) → motionBy (gCode turningNumber) before ≡ kept.Of motion.Turning
 unfolding gCode motionBy
 turning-code before = refl
 
@@ -67,7 +67,7 @@ module _ (table : List ℤ) (set : Settings) (s : State) (b : Block) (opens : op
   pub turning-deed : deedIn table set s b ≡ deed.Cycle (cycle.Turning (wantedIn table s b))
   unfolding deedIn deedOf moveOf sendingOf wantedIn
   turning-deed =
-      ap (λ (k : Kept). deedOf k b (sendingOf table set s b)) (motion-of 84 motion.Turning turning-code (s .motion) b opens)
+      ap (λ (k : Kept). deedOf k b (sendingOf table set s b)) (motion-of turningNumber motion.Turning turning-code (s .motion) b opens)
       ∙ ap (λ (c : Turning). deed.Cycle (cycle.Turning c)) (is-wanted b (settled s b) (offsetOf table (settled s b)) (set .retract) (set .«empty_cuts»))
 
 -- ---- the other records of a block are no feeds, and stand where the cycle starts

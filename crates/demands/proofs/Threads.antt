@@ -6,7 +6,7 @@ use mathlib.Core.List.{List, [], _∷_, _++_, append-assoc}
 use Prim.Native.Nat.{ℕ, _+_}
 use lib.IntN.{ℤ}
 use Rattle.moves.specs.declared.record.Record.{Record}
-use Rattle.codes.specs.Codes.{gCode}
+use Rattle.codes.specs.Codes.{gCode, threadingNumber}
 use Rattle.codes.specs.declared.meaning.Motion.the-variants as motion
 use Rattle.block.specs.declared.words.Block.{Block}
 use Rattle.block.specs.Slots.{has, sSlot, tSlot, spindleSlot, flowSlot, coolantSlot}
@@ -46,7 +46,7 @@ beside-append [] w h k = k
 beside-append (r ∷ v) w h k = (h .0, beside-append v w (h .1) k)
 
 -- ---- the deed of a G85 block is the thread that its words ask for
-threading-code : (before : Kept) → motionBy (gCode 85) before ≡ kept.Of motion.Threading
+threading-code : (before : Kept) → motionBy (gCode threadingNumber) before ≡ kept.Of motion.Threading
 unfolding gCode motionBy
 threading-code before = refl
 
@@ -54,7 +54,7 @@ module _ (table : List ℤ) (set : Settings) (s : State) (b : Block) (opens : op
   threading-deed : deedIn table set s b ≡ deed.Cycle (cycle.Threading (threadIn table set s b))
   unfolding deedIn deedOf moveOf sendingOf threadIn
   threading-deed =
-      ap (λ (k : Kept). deedOf k b (sendingOf table set s b)) (motion-of 85 motion.Threading threading-code (s .motion) b opens)
+      ap (λ (k : Kept). deedOf k b (sendingOf table set s b)) (motion-of threadingNumber motion.Threading threading-code (s .motion) b opens)
       ∙ ap (λ (t : Thread). deed.Cycle (cycle.Threading t)) (is-thread-wanted b (settled s b) (offsetOf table (settled s b)) (set .retract) (set .«empty_cuts»))
 
   -- ---- the promise
