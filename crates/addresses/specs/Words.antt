@@ -1,9 +1,10 @@
 -- 01: "Known addresses: N G X Z U W F S T M L P D." "Small letters count as capitals." "Spaces may stand around words and not inside one; a comment counts
 -- as a space." "P and D carry an index digit and `=`, as `D3=600`. The part of a word after its address is read as a number by one rule."
-use mathlib.Core.Bool.{Bool, false, cond, _&&_, _||_}
+use mathlib.Core.Bool.{Bool, false, cond, not, _&&_, _||_}
 use mathlib.Core.List.{List, [], _∷_}
 use Prim.Native.Nat.{ℕ, zero, suc, _+_, _-_, _<_, _≤_}
 use lib.Dec.{leb, ltb, eqb}
+use lib.IntN.{natAbs}
 use lib.ListN.{length, getD, take, drop}
 use Rattle.whole.specs.Among.{among}
 use Rattle.letters.specs.Letters.{space, percent, opening, equals, digitZero, letterD, letterF, letterG, letterL, letterM, letterN, letterO, letterP, letterS, letterT, letterU, letterW, letterX, letterZ}
@@ -84,6 +85,10 @@ behindGap (gap.At p) k = k p
 -- the next word from a place on
 unfoldable pub nextWord : List ℕ → ℕ → NextWord
 nextWord s i = behindGap (gapOf false i (drop i s)) (λ p. cond (ltb p (length s)) (wordAt s p) End)
+
+-- 02: "a setting turns missing points into an alarm for X Z U W. Zero without a point stays allowed": a word of these addresses, without a point, that is not 0 in any spelling
+unfoldable pub lacksPoint : Rattle.addresses.specs.declared.Word.Word → Bool
+lacksPoint w = among (w .address) (letterX ∷ letterZ ∷ letterU ∷ letterW ∷ []) && (not (w .pointed) && not (eqb (natAbs (w .value)) 0))
 
 -- a word ends behind where it was looked for, and within the line
 abbrev pub NextIn : NextWord → ℕ → ℕ → Type 0

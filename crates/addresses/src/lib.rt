@@ -7,7 +7,7 @@ ghost use mathlib.Core.Path.{_≡_};
 ghost use Prim.Native.Nat.{_≤_, _<_};
 ghost use lib.ListN.{length};
 ghost use Rattle.tape.specs.Lines.{seekFrom};
-ghost use Rattle.addresses.specs.Words.{capital, endsNumber, formOf, numberWord, indexOf, IndexIn, wordAt, nextWord, NextIn};
+ghost use Rattle.addresses.specs.Words.{capital, endsNumber, formOf, numberWord, indexOf, IndexIn, wordAt, nextWord, lacksPoint, NextIn};
 
 // A word as it is written: its address as a capital, its index (0 but for P and D), its number, and whether that had a point.
 pub struct Word {
@@ -176,4 +176,19 @@ pub fn next_word(line: &[u8], from: usize) -> NextWord
             word_at(line, p)
         }
     }
+}
+
+// Whether a word of X Z U W was written without a point and is not 0. (02: "Zero without a point stays allowed".)
+pub fn lacks_point(w: Word) -> bool
+    ensures { λ r. ⌜ r ≡ lacksPoint w ⌝ }
+{
+    if w.pointed {
+        return false;
+    }
+    let address = w.address;
+    let asked = (address == b'X') | ((address == b'Z') | ((address == b'U') | (address == b'W')));
+    if !asked {
+        return false;
+    }
+    whole::signed::magnitude(w.value) != 0
 }

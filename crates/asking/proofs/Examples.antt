@@ -37,6 +37,7 @@ words k m x z ds = record {
   late = false;
   unknown = false;
   ends = false;
+  pointless = false;
 }
 
 -- from X40. Z2. to X30. Z-20., feed 120 under G95, retract 500
@@ -178,10 +179,10 @@ no-alarm = refl
 
 -- ---- P10: "T0101, then G01 X1.: alarm 16"
 abbrev tool : Block
-tool = record { value = replicate 6 (pos 0) ++ pos 101 ∷ []; place = replicate 6 0 ++ 1 ∷ []; words = 1; late = false; unknown = false; ends = false }
+tool = record { value = replicate 6 (pos 0) ++ pos 101 ∷ []; place = replicate 6 0 ++ 1 ∷ []; words = 1; late = false; unknown = false; ends = false; pointless = false }
 
 abbrev feeding : Block
-feeding = record { value = pos 1000 ∷ replicate 31 (pos 0) ++ pos 1 ∷ []; place = 2 ∷ replicate 31 0 ++ 1 ∷ []; words = 2; late = false; unknown = false; ends = false }
+feeding = record { value = pos 1000 ∷ replicate 31 (pos 0) ++ pos 1 ∷ []; place = 2 ∷ replicate 31 0 ++ 1 ∷ []; words = 2; late = false; unknown = false; ends = false; pointless = false }
 
 -- the state in which the second block makes its move
 abbrev before : State

@@ -7,7 +7,7 @@ use Prim.Native.Nat.{ℕ, _<_}
 use lib.Dec.{T, eqb, eqb→eq}
 use lib.IntN.{ℤ, natAbs}
 use Rattle.letters.specs.Letters.{percent, letterN, letterO}
-use Rattle.addresses.specs.Words.{formOf}
+use Rattle.addresses.specs.Words.{formOf, lacksPoint}
 use Rattle.addresses.specs.declared.Word.{Word}
 use Rattle.addresses.specs.declared.NextWord.{NextWord}
 use Rattle.addresses.specs.declared.NextWord.the-variants as next
@@ -22,7 +22,7 @@ abbrev pub HeadIn : Head → Type 0
 HeadIn (ProgramLine n) = n < 10_000
 HeadIn (BlockLine n) = n < 10_000
 HeadIn Blank = Unit {0}
-HeadIn Other = Unit {0}
+HeadIn (Other lacks) = Unit {0}
 
 pub size-below : {n : ℕ} {z : ℤ} → Below n z → natAbs z < n
 size-below {n} b = subst (λ (z : ℤ). natAbs z < n) (sym (b .is)) (b .small)
@@ -43,7 +43,7 @@ unfolding headBy isProgramAddress formOf
 head-small w i = go (eqb (w .address) percent || eqb (w .address) letterO) (eqb (w .address) letterN) refl refl
   where
     go : (s t : Bool) → (eqb (w .address) percent || eqb (w .address) letterO) ≡ s → eqb (w .address) letterN ≡ t
-        → HeadIn (cond s (ProgramLine (natAbs (w .value))) (cond t (BlockLine (natAbs (w .value))) Other))
+        → HeadIn (cond s (ProgramLine (natAbs (w .value))) (cond t (BlockLine (natAbs (w .value))) (Other (lacksPoint w))))
     go true t e f = or-is (eqb (w .address) percent) (eqb (w .address) letterO) e (natAbs (w .value) < 10_000)
         (λ d. size-below (taken w percent i (eqb-is (w .address) percent d))) (λ d. size-below (taken w letterO i (eqb-is (w .address) letterO d)))
     go false true e f = size-below (taken w letterN i (eqb-is (w .address) letterN f))

@@ -1,13 +1,13 @@
 -- Laws of a line's words: how the next word carries the block on, and how a line begins.
 -- Assumes nothing.
 use mathlib.Core.Path.{_≡_, refl, sym, ap, _∙_}
-use mathlib.Core.Bool.{Bool, true, false, cond}
+use mathlib.Core.Bool.{Bool, true, false, cond, _||_}
 use mathlib.Core.List.{List}
 use Prim.Native.Nat.{ℕ, _+_, _≤_}
 use native.Mathlib.Omega.{arith}
 use lib.IntN.{ℤ}
 use lib.ListN.{length, set}
-use Rattle.addresses.specs.Words.{faulty, onward, nextWord, wordsFrom}
+use Rattle.addresses.specs.Words.{faulty, onward, nextWord, lacksPoint, wordsFrom}
 use Rattle.addresses.specs.declared.Word.{Word}
 use Rattle.addresses.specs.declared.NextWord.{NextWord}
 use Rattle.addresses.specs.declared.NextWord.the-variants as next
@@ -43,13 +43,16 @@ unfolding putWord
 put-by b w e = ap (λ (k : Slot). putIn k b w) (sym e)
 
 -- what the stores leave, with the slot's word as it came
-pub stored : (b : Block) (w : Word) (k : ℕ) {v : ℤ} {t : Bool} → v ≡ w .value → t ≡ isEnd w
-    → record { value = set (b .value) k v; place = set (b .place) k (b .words + 1); words = b .words + 1; late = b .late; unknown = b .unknown; ends = t } ≡ putIn (At k) b w
-stored b w k e f i = record { value = set (b .value) k (e i); place = set (b .place) k (b .words + 1); words = b .words + 1; late = b .late; unknown = b .unknown; ends = f i }
+pub stored : (b : Block) (w : Word) (k : ℕ) {v : ℤ} {t l : Bool} → v ≡ w .value → t ≡ isEnd w → l ≡ lacksPoint w
+    → record { value = set (b .value) k v; place = set (b .place) k (b .words + 1); words = b .words + 1; late = b .late; unknown = b .unknown; ends = t; pointless = b .pointless || l } ≡ putIn (At k) b w
+stored b w k e f g i = record { value = set (b .value) k (e i); place = set (b .place) k (b .words + 1); words = b .words + 1; late = b .late; unknown = b .unknown; ends = f i; pointless = b .pointless || g i }
 
-pub noted : (b : Block) (w : Word) {t : Bool} (l u : Bool) → t ≡ isEnd w
-    → _≡_ {A = Block} (record { value = b .value; place = b .place; words = b .words + 1; late = l; unknown = u; ends = t }) (record { value = b .value; place = b .place; words = b .words + 1; late = l; unknown = u; ends = isEnd w })
-noted b w l u f i = record { value = b .value; place = b .place; words = b .words + 1; late = l; unknown = u; ends = f i }
+-- and the word that has no slot
+abbrev marked : Block → Bool → Bool → Bool → Bool → Block
+marked b late unknown ends lacks = record { value = b .value; place = b .place; words = b .words + 1; late = late; unknown = unknown; ends = ends; pointless = b .pointless || lacks }
+
+pub noted : (b : Block) (w : Word) {t l : Bool} (late unknown : Bool) → t ≡ isEnd w → l ≡ lacksPoint w → marked b late unknown t l ≡ marked b late unknown (isEnd w) (lacksPoint w)
+noted b w late unknown f g i = marked b late unknown (f i) (g i)
 
 -- the words of the line s from i on, by the next of them
 module _ (s : List ℕ) (i : ℕ) (h : i ≤ length s) (b : Block) where

@@ -4,6 +4,7 @@ use mathlib.Core.Path.{_≡_}
 use Prim.Native.Nat.{ℕ}
 use borrow.Author.Tests.{ne-eqb}
 use Rattle.letters.specs.Letters.{percent, letterD, letterF, letterG, letterL, letterM, letterN, letterO, letterP, letterS, letterT, letterU, letterW, letterX, letterZ}
+use Rattle.addresses.specs.Words.{lacksPoint}
 use Rattle.addresses.specs.declared.Word.{Word}
 use Rattle.block.specs.declared.words.Slot.the-variants.{Unknown}
 use Rattle.block.specs.declared.words.Head.the-variants.{Other}
@@ -19,6 +20,6 @@ module _ (w : Word) where
   slot-none x z u v f s t l p d g m n =
       rw (ne-eqb _ _ x, ne-eqb _ _ z, ne-eqb _ _ u, ne-eqb _ _ v, ne-eqb _ _ f, ne-eqb _ _ s, ne-eqb _ _ t, ne-eqb _ _ l, ne-eqb _ _ p, ne-eqb _ _ d, ne-eqb _ _ g, ne-eqb _ _ m, ne-eqb _ _ n)
 
-  pub head-other : Not percent → Not letterO → Not letterN → headBy w ≡ Other
+  pub head-other : Not percent → Not letterO → Not letterN → headBy w ≡ Other (lacksPoint w)
   unfolding Not headBy isProgramAddress
   head-other p o n = rw (ne-eqb _ _ p, ne-eqb _ _ o, ne-eqb _ _ n)

@@ -8,7 +8,7 @@ use lib.Dec.{eqb}
 use lib.IntN.{pos, natAbs}
 use lib.ListN.{set, replicate}
 use Rattle.letters.specs.Letters.{percent, letterD, letterF, letterG, letterL, letterM, letterN, letterO, letterP, letterS, letterT, letterU, letterW, letterX, letterZ}
-use Rattle.addresses.specs.Words.{Words, word, ended, faulty, nextWord, wordsFrom}
+use Rattle.addresses.specs.Words.{Words, word, ended, faulty, nextWord, lacksPoint, wordsFrom}
 use Rattle.addresses.specs.declared.Word.{Word}
 use Rattle.addresses.specs.declared.NextWord.{NextWord}
 use Rattle.addresses.specs.declared.NextWord.the-variants as next
@@ -61,18 +61,18 @@ SlotIn Unknown = Unit {0}
 
 -- the block with no words
 unfoldable pub noWords : Block
-noWords = record { value = replicate slots (pos 0); place = replicate slots 0; words = 0; late = false; unknown = false; ends = false }
+noWords = record { value = replicate slots (pos 0); place = replicate slots 0; words = 0; late = false; unknown = false; ends = false; pointless = false }
 
 -- the word M30
 unfoldable pub isEnd : Word → Bool
 isEnd w = eqb (w .address) letterM && endsBy (mCode (numberIn w))
 
--- a block with one word more: "the last word .. is the one that applies"
+-- a block with one word more: "the last word .. is the one that applies". Whether a point is missing is kept of every word, of one that a later word replaces too
 abbrev pub putIn : Slot → Block → Word → Block
 putIn (At k) b w =
-    record { value = set (b .value) k (w .value); place = set (b .place) k (b .words + 1); words = b .words + 1; late = b .late; unknown = b .unknown; ends = isEnd w }
-putIn Late b w = record { value = b .value; place = b .place; words = b .words + 1; late = true; unknown = b .unknown; ends = isEnd w }
-putIn Unknown b w = record { value = b .value; place = b .place; words = b .words + 1; late = b .late; unknown = true; ends = isEnd w }
+    record { value = set (b .value) k (w .value); place = set (b .place) k (b .words + 1); words = b .words + 1; late = b .late; unknown = b .unknown; ends = isEnd w; pointless = b .pointless || lacksPoint w }
+putIn Late b w = record { value = b .value; place = b .place; words = b .words + 1; late = true; unknown = b .unknown; ends = isEnd w; pointless = b .pointless || lacksPoint w }
+putIn Unknown b w = record { value = b .value; place = b .place; words = b .words + 1; late = b .late; unknown = true; ends = isEnd w; pointless = b .pointless || lacksPoint w }
 
 unfoldable pub putWord : Block → Word → Block
 putWord b w = putIn (slotOf w) b w
@@ -91,9 +91,9 @@ gather b ended = record { block = b; faulty = false }
 gather b faulty = faultyRest
 gather b (word w ws) = cond (isProgramAddress (w .address)) faultyRest (gather (putWord b w) ws)
 
--- how a line begins, by its first word
+-- how a line begins, by its first word, and where that is another word, whether it lacks its point
 unfoldable pub headBy : Word → Head
-headBy w = cond (isProgramAddress (w .address)) (ProgramLine (numberIn w)) (cond (eqb (w .address) letterN) (BlockLine (numberIn w)) Other)
+headBy w = cond (isProgramAddress (w .address)) (ProgramLine (numberIn w)) (cond (eqb (w .address) letterN) (BlockLine (numberIn w)) (Other (lacksPoint w)))
 
 abbrev pub headOfNext : NextWord → Head
 headOfNext next.Fault = Blank

@@ -72,17 +72,19 @@ pub struct Block {
     pub unknown: bool,
     // the last of them is M30
     pub ends: bool,
+    // an X Z U W word stands among them that has no point and is not 0
+    pub pointless: bool,
 }
 
 // The longest line, line end not counted (alarm 7).
 pub const LONGEST_LINE: usize = 160;
 
-// How a line begins.
+// How a line begins; where that is another word, whether it is one of X Z U W that has no point and is not 0.
 pub enum Head {
     Blank,
     ProgramLine(u32),
     BlockLine(u32),
-    Other,
+    Other(bool),
 }
 
 // What a line starts with: a word, by how the line begins with it and the place behind it; or none; or a fault.
@@ -221,6 +223,7 @@ pub fn no_words() -> Block
         late: false,
         unknown: false,
         ends: false,
+        pointless: false,
     }
 }
 
@@ -276,10 +279,12 @@ pub fn read_rest(line: &[u8], from: usize) -> Rest
                 let slot = slot_of(w);
                 let value = w.value;
                 let ends = is_end(w);
+                let lacks = addresses::lacks_point(w);
                 let n = b.words + 1;
                 i = end;
                 b.words = n;
                 b.ends = ends;
+                b.pointless = b.pointless | lacks;
                 match slot {
                     Slot::At(k) => {
                         b.value[k] = value;
@@ -301,7 +306,7 @@ fn head_by(w: Word) -> Head
     match address {
         b'%' | b'O' => Head::ProgramLine(number),
         b'N' => Head::BlockLine(number),
-        _ => Head::Other,
+        _ => Head::Other(addresses::lacks_point(w)),
     }
 }
 

@@ -13,7 +13,7 @@ use Rattle.alarms.specs.Given.{given, IsAlarm}
 use Rattle.whole.specs.Among.{among}
 use Rattle.settings.specs.Wrong.{highestProgram}
 use Rattle.block.specs.Words.{longestLine, lineOf}
-use Rattle.rules.specs.Rules.{brokenBy, refusedLine, judgedBy, judged}
+use Rattle.rules.specs.Rules.{brokenBy, lacksBy, refusedLine, judgedBy, judged}
 use Rattle.rules.specs.declared.judge.Judged.{Judged}
 use Rattle.block.specs.declared.words.Block.{Block}
 use Rattle.block.specs.declared.words.Head.{Head}
@@ -54,13 +54,13 @@ judged-named : (s : List ℕ) → NoneOrGiven (judged s .alarm)
 unfolding judged
 judged-named s =
     let r = lineOf s in
-    let well : Judged = record { alarm = 0; head = r .head; broken = brokenBy (r .head) (r .block); ends = r .block .ends } in
+    let well : Judged = record { alarm = 0; head = r .head; pointless = lacksBy (r .head) (r .block .pointless); broken = brokenBy (r .head) (r .block); ends = r .block .ends } in
     judged-by (ltb longestLine (length s)) (refusedLine lineTooLong) (judgedBy r) refl (judged-by (r .faulty) (refusedLine badByteOrNumber) well refl refl)
 
 head-named : (h : History) (k : Head) (broken : Bool) → NoneOrGiven (headAlarm h k broken)
 unfolding headAlarm
 head-named h Blank broken = refl
-head-named h Other broken = refl
+head-named h (Other lacks) broken = refl
 head-named h (ProgramLine n) broken = either (ltb highestProgram n || among n (h .programs)) badLineStart (cond broken wordRules 0) refl (either broken wordRules 0 refl refl)
 head-named h (BlockLine n) broken = either (among n (h .blocks)) badLineStart (cond broken wordRules 0) refl (either broken wordRules 0 refl refl)
 

@@ -34,7 +34,7 @@ unfolding hereOf
 is-block (BlockLine n) e = (n, refl)
 is-block (ProgramLine n) e = absurd (subst OnlyIs (sym e) tt)
 is-block Blank e = absurd (subst OnlyIs (sym e) tt)
-is-block Other e = absurd (subst OnlyIs (sym e) tt)
+is-block (Other lacks) e = absurd (subst OnlyIs (sym e) tt)
 
 module _ (w : Sought) (s : List ℕ) (p : ℕ) where
   pub seek-end : length s ≤ p → seekLine w (lines s p) ≡ Nowhere

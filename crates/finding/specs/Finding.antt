@@ -28,15 +28,15 @@ unfoldable pub hereOf : Sought → Head → Here
 hereOf (Program n) (ProgramLine k) = cond (eqb k n) Is On
 hereOf (Program n) (BlockLine k) = On
 hereOf (Program n) Blank = On
-hereOf (Program n) Other = On
+hereOf (Program n) (Other lacks) = On
 hereOf (Block n) (ProgramLine k) = Ends
 hereOf (Block n) (BlockLine k) = cond (eqb k n) Is On
 hereOf (Block n) Blank = On
-hereOf (Block n) Other = On
+hereOf (Block n) (Other lacks) = On
 hereOf AnyBlock (ProgramLine k) = Ends
 hereOf AnyBlock (BlockLine k) = Is
 hereOf AnyBlock Blank = On
-hereOf AnyBlock Other = On
+hereOf AnyBlock (Other lacks) = On
 
 -- one line, with what the lines behind it give
 unfoldable pub foundBy : Here → ℕ → Found → Found

@@ -55,7 +55,7 @@ fn program_here(number: u32, head: Head) -> Here
         }
         Head::BlockLine(_) => Here::On,
         Head::Blank => Here::On,
-        Head::Other => Here::On,
+        Head::Other(_) => Here::On,
     }
 }
 
@@ -71,7 +71,7 @@ fn block_here(number: u32, head: Head) -> Here
             Here::On
         }
         Head::Blank => Here::On,
-        Head::Other => Here::On,
+        Head::Other(_) => Here::On,
     }
 }
 
@@ -82,7 +82,7 @@ fn any_here(head: Head) -> Here
         Head::ProgramLine(_) => Here::Ends,
         Head::BlockLine(_) => Here::Is,
         Head::Blank => Here::On,
-        Head::Other => Here::On,
+        Head::Other(_) => Here::On,
     }
 }
 

@@ -210,9 +210,9 @@ pub blank-none : (h : History) (broken : Bool) → headAlarm h Blank broken ≡ 
 unfolding headAlarm
 blank-none h broken = refl
 
-pub other-start : (h : History) (broken : Bool) → headAlarm h Other broken ≡ badLineStart
+pub other-start : (h : History) (lacks broken : Bool) → headAlarm h (Other lacks) broken ≡ badLineStart
 unfolding headAlarm
-other-start h broken = refl
+other-start h lacks broken = refl
 
 pub blank-on : (ends : Bool) → endsWith Blank ends ≡ false
 unfolding endsWith

@@ -31,7 +31,7 @@ nothingRead = record { programs = []; blocks = [] }
 -- alarms 6 and 9 of a line, in this order; 0 for none. The last argument: whether the line breaks a word rule
 unfoldable pub headAlarm : History → Head → Bool → ℕ
 headAlarm h Blank broken = 0
-headAlarm h Other broken = badLineStart
+headAlarm h (Other lacks) broken = badLineStart
 headAlarm h (ProgramLine n) broken = cond (ltb highestProgram n || among n (h .programs)) badLineStart (cond broken wordRules 0)
 headAlarm h (BlockLine n) broken = cond (among n (h .blocks)) badLineStart (cond broken wordRules 0)
 
@@ -42,7 +42,7 @@ lineAlarm h j = cond (eqb (j .alarm) 0) (headAlarm h (j .head) (j .broken)) (j .
 -- what was read, with one line more
 unfoldable pub noted : History → Head → History
 noted h Blank = h
-noted h Other = h
+noted h (Other lacks) = h
 noted h (ProgramLine n) = record { programs = n ∷ h .programs; blocks = [] }
 noted h (BlockLine n) = record { programs = h .programs; blocks = n ∷ h .blocks }
 
@@ -50,7 +50,7 @@ noted h (BlockLine n) = record { programs = h .programs; blocks = n ∷ h .block
 unfoldable pub endsWith : Head → Bool → Bool
 endsWith (BlockLine n) ends = ends
 endsWith Blank ends = false
-endsWith Other ends = false
+endsWith (Other lacks) ends = false
 endsWith (ProgramLine n) ends = false
 
 -- one line, with what the lines behind it give

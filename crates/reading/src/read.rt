@@ -56,7 +56,7 @@ fn read_lines(tape: &[u8], first: usize) -> Read
             Head::Blank => {
                 p = after;
             }
-            Head::Other => {
+            Head::Other(_) => {
                 return Read::Alarm(alarms::BAD_LINE_START, p);
             }
             Head::ProgramLine(n) => {

@@ -17,7 +17,7 @@ use Rattle.block.specs.declared.words.Rest.{Rest}
 use Rattle.block.specs.Slots.{has, anyOf, gIn}
 use Rattle.block.specs.Words.{longestLine, noWords, gather, reading, lineOf, startOf}
 use Rattle.block.proofs.Lines.{rest-none, lineFrom, line-from}
-use Rattle.rules.specs.Rules.{callsOrJumps, unknownNumber, lateN, afterProgram, axisTwice, lWordWrong, moreThanL, callWrong, pathWrong, isForeign, dWordWrong, dWordMissing, bitsWrong, motionWrong, broken, brokenBy, judgedAlone, refusedLine, judgedBy, judged}
+use Rattle.rules.specs.Rules.{callsOrJumps, unknownNumber, lateN, afterProgram, axisTwice, lWordWrong, moreThanL, callWrong, pathWrong, isForeign, dWordWrong, dWordMissing, bitsWrong, motionWrong, broken, brokenBy, lacksBy, judgedAlone, refusedLine, judgedBy, judged}
 
 -- no words break no rule
 none-broken : broken noWords ≡ false
@@ -29,11 +29,11 @@ unfolding brokenBy afterProgram noWords
 none-wrong (ProgramLine n) = refl
 none-wrong (BlockLine n) = none-broken
 none-wrong Blank = refl
-none-wrong Other = refl
+none-wrong (Other lacks) = refl
 
 pub judged-none : (h : Head) → judgedBy (reading h (record { block = noWords; faulty = false })) ≡ judgedAlone 0 h
 unfolding noWords
-judged-none h = ap (λ (t : Bool). record { alarm = 0; head = h; broken = t; ends = false }) (none-wrong h)
+judged-none h = ap (λ (t : Bool). record { alarm = 0; head = h; pointless = lacksBy h false; broken = t; ends = false }) (none-wrong h)
 
 pub judged-bare : (s : List ℕ) (h : Head) (behind : ℕ) → behind ≤ length s → length s ≤ behind → judgedBy (reading h (gather noWords (wordsFrom s behind))) ≡ judgedAlone 0 h
 judged-bare s h behind l e = ap (λ (r : Rest). judgedBy (reading h r)) (rest-none s behind l noWords e) ∙ judged-none h
@@ -50,5 +50,5 @@ judged-long s h = rw (lt-ltb longestLine (length s) h)
 pub judged-faulty : (r : ReadLine) → r .faulty ≡ true → judgedBy r ≡ refusedLine badByteOrNumber
 judged-faulty r e = rw e
 
-pub judged-good : (r : ReadLine) → r .faulty ≡ false → judgedBy r ≡ record { alarm = 0; head = r .head; broken = brokenBy (r .head) (r .block); ends = r .block .ends }
+pub judged-good : (r : ReadLine) → r .faulty ≡ false → judgedBy r ≡ record { alarm = 0; head = r .head; pointless = lacksBy (r .head) (r .block .pointless); broken = brokenBy (r .head) (r .block); ends = r .block .ends }
 judged-good r e = rw e

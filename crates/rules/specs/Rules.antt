@@ -94,11 +94,18 @@ unfoldable pub brokenBy : Head → Block → Bool
 brokenBy (ProgramLine n) b = afterProgram b
 brokenBy (BlockLine n) b = broken b
 brokenBy Blank b = false
-brokenBy Other b = false
+brokenBy (Other lacks) b = false
 
--- a line of an alarm or none, and a head, and no more
+-- an X Z U W number of a line lacks its point: one behind the first word, or the first, where that is another word than a number of a program or a block
+unfoldable pub lacksBy : Head → Bool → Bool
+lacksBy (Other lacks) behind = lacks || behind
+lacksBy (ProgramLine n) behind = behind
+lacksBy (BlockLine n) behind = behind
+lacksBy Blank behind = behind
+
+-- a line of an alarm or none, and a head, and no words behind that
 abbrev pub judgedAlone : ℕ → Head → Judged
-judgedAlone n h = record { alarm = n; head = h; broken = false; ends = false }
+judgedAlone n h = record { alarm = n; head = h; pointless = lacksBy h false; broken = false; ends = false }
 
 -- a line with alarm 7 or 5: the other fields say nothing
 abbrev pub refusedLine : ℕ → Judged
@@ -106,9 +113,10 @@ refusedLine n = judgedAlone n Blank
 
 abbrev pub judgedBy : ReadLine → Judged
 judgedBy r =
-    cond (r .faulty) (refusedLine badByteOrNumber) (record { alarm = 0; head = r .head; broken = brokenBy (r .head) (r .block); ends = r .block .ends })
+    cond (r .faulty) (refusedLine badByteOrNumber)
+    (record { alarm = 0; head = r .head; pointless = lacksBy (r .head) (r .block .pointless); broken = brokenBy (r .head) (r .block); ends = r .block .ends })
 
--- what the text of a line, its end not counted, shows by itself: alarm 7, then 5, else how it begins, whether it breaks a rule, and
--- whether the last word behind its first is M30
+-- what the text of a line, its end not counted, shows by itself: alarm 7, then 5, else how it begins, whether an X Z U W number of it lacks its point, whether it
+-- breaks a rule, and whether the last word behind its first is M30
 unfoldable pub judged : List ℕ → Judged
 judged s = cond (ltb longestLine (length s)) (refusedLine lineTooLong) (judgedBy (lineOf s))

@@ -8,13 +8,14 @@ ghost use Prim.Native.Nat.{_≤_};
 ghost use lib.ListN.{length};
 ghost use Rattle.addresses.specs.Words.{wordsFrom};
 ghost use Rattle.block.specs.Words.{longestLine, noWords, gather, reading};
-ghost use Rattle.rules.specs.Rules.{brokenBy, judgedAlone, judgedBy, judged};
+ghost use Rattle.rules.specs.Rules.{brokenBy, lacksBy, judgedAlone, judgedBy, judged};
 
-// What a line shows by itself: alarm 7 or 5 or 0, and where that is 0, how it begins, whether it breaks a word rule, and whether M30 is the last word
-// behind its first. Ask the alarm first: where it is not 0 the other fields say nothing.
+// What a line shows by itself: alarm 7 or 5 or 0, and where that is 0, how it begins, whether one of its words lacks its point, whether it breaks a word rule, and
+// whether M30 is the last word behind its first. Ask the alarm first: where it is not 0 the other fields say nothing.
 pub struct Judged {
     pub alarm: u8,
     pub head: Head,
+    pub pointless: bool,
     pub broken: bool,
     pub ends: bool,
 }
@@ -27,7 +28,19 @@ fn breaks_behind(head: Head, b: Block) -> bool
         Head::ProgramLine(_) => b.words != 0,
         Head::BlockLine(_) => crate::breaking::breaks_rules(b),
         Head::Blank => false,
-        Head::Other => false,
+        Head::Other(_) => false,
+    }
+}
+
+// Whether a word of a line lacks its point, by how it begins and by the words behind that.
+fn lacks_by(head: Head, behind: bool) -> bool
+    ensures { λ r. ⌜ r ≡ lacksBy head behind ⌝ }
+{
+    match head {
+        Head::Other(first) => first | behind,
+        Head::ProgramLine(_) => behind,
+        Head::BlockLine(_) => behind,
+        Head::Blank => behind,
     }
 }
 
@@ -38,6 +51,7 @@ fn judged_alone(alarm: u8, head: Head) -> Judged
     Judged {
         alarm,
         head,
+        pointless: lacks_by(head, false),
         broken: false,
         ends: false,
     }
@@ -59,6 +73,7 @@ fn judge_words(line: &[u8], head: Head, behind: usize) -> Judged
     Judged {
         alarm: 0,
         head,
+        pointless: lacks_by(head, block.pointless),
         broken: breaks_behind(head, block),
         ends: block.ends,
     }

@@ -44,7 +44,7 @@ fn is_block(head: Head) -> bool {
         Head::BlockLine(_) => true,
         Head::ProgramLine(_) => false,
         Head::Blank => false,
-        Head::Other => false,
+        Head::Other(_) => false,
     }
 }
 

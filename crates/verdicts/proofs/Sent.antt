@@ -1,9 +1,10 @@
 -- Where a block sends the axes: what its offset and its targets ask for, and what is known of its deed.
 -- Assumes nothing.
 use mathlib.Core.Path.{_≡_, sym, ap, _∙_, subst}
-use mathlib.Core.Bool.{true}
+use mathlib.Core.Bool.{Bool, true, false, cond}
 use mathlib.Core.List.{List}
 use Prim.Native.Nat.{_<_, _^_}
+use native.Mathlib.Omega.{arith}
 use lib.IntN.{ℤ, natAbs, _-ℤ_}
 use mir.Syntax.{w32}
 use mir.Val.{SFits, toZ, ofZ}
@@ -12,8 +13,8 @@ use Rattle.whole.specs.Position.{inTable}
 use Rattle.whole.proofs.Integers.{whole, sub-in, abs}
 use Rattle.whole.proofs.Positions.{in-range}
 use Rattle.block.specs.Worded.{Worded}
-use Rattle.block.specs.Slots.{codeIn, gIn}
-use Rattle.state.specs.Modal.{settled, blockMotion}
+use Rattle.block.specs.Slots.{fSlot, has, codeIn, gIn}
+use Rattle.state.specs.Modal.{feedAfter, settled, blockMotion}
 use Rattle.state.specs.Target.{offsetOf, targetX, targetZ}
 use Rattle.state.specs.Known.{Numbers, Sound, Sent}
 use Rattle.state.proofs.Sending.{table-fits, Offset, offset-x, offset-z}
@@ -84,6 +85,19 @@ near-fits z s n h = let k = in-range s h in omega (whole, k .low, k .high, sub-i
 
 near-reach : (z s : ℤ) → natAbs (z -ℤ s) < 100_000_000 → inTable s ≡ true → natAbs z < 1_000_000_000
 near-reach z s n h = let k = in-range s h in omega (whole, k .low, k .high, sub-in z s, abs (z -ℤ s), abs z, n)
+
+-- a word F has at most seven digits
+word-fits : (b : Block) → Worded b → codeIn b fSlot < 2 ^ 32
+unfolding codeIn gIn
+word-fits b w = omega (arith, w .each fSlot)
+
+pub feed-settled : (s : State) (b : Block) → Worded b → s .f < 2 ^ 32 → settled s b .f < 2 ^ 32
+unfolding settled feedAfter
+feed-settled s b w h = either (has b fSlot)
+  where
+    either : (t : Bool) → cond t (codeIn b fSlot) (s .f) < 2 ^ 32
+    either true = word-fits b w
+    either false = h
 
 module _ (table : List ℤ) (set : Settings) (s : State) (b : Block) (known : Table table) (range : InRange set) (h : Sound s) (w : Worded b) (feed : settled s b .f < 2 ^ 32) where
   sends : Sends (sendingOf table set s b)

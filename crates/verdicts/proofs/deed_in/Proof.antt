@@ -2,14 +2,13 @@
 use mathlib.Core.Path.{sym, ap, _∙_, subst}
 use Prim.Native.Nat.{ℕ, _<_, _^_}
 use denote.Ref.{now}
-use Rattle.state.specs.declared.modal.State.{State}
 use native.Mathlib.Omega.{arith}
 use borrow.Author.Needs.{needs}
 use Rattle.deeds.specs.Deed.{deedOf}
 use Rattle.deeds.specs.Known.{Known}
 use Rattle.deeds.specs.declared.deed.Sending.{Sending}
 use Rattle.verdicts.specs.Verdicts.{sendingOf, deedIn}
-use Rattle.verdicts.proofs.Sent.{small, known-in}
+use Rattle.verdicts.proofs.Sent.{small, feed-settled, known-in}
 use Rattle.verdicts.proofs.deed_in.Statement.{statement}
 use Rattle.verdicts.proofs.deed_in.Tie as tie
 
@@ -25,7 +24,7 @@ deed-of-requires c κs =
     let a = c .before .before in
     (small (a .args .b) (a .pre .3), subst (λ (n : ℕ). n < 32_768) (sym (ap (λ (s : Sending). s .retract) (c .sending-of .ensures))) (omega (arith, a .pre .1 .retract)))
 
-feed-fits : (s : tie.Start) → s .args .t .f < 2 ^ 32
+feed-fits : (s : tie.Start) → s .args .s .f < 2 ^ 32
 feed-fits s = search needs
 
 returns : tie.Need-returns
@@ -34,7 +33,7 @@ returns c =
     let a = c .before .before .before in
     let r = a .args in
     let is = c .deed-of .ensures ∙ (λ i. deedOf (c .before .before .block-motion .ensures i) (r .b) (c .before .sending-of .ensures i)) in
-    (is, subst Known (sym is) (known-in (now (r .table)) (r .set) (r .s) (r .b) (a .pre .0) (a .pre .1) (a .pre .2) (a .pre .3) (subst (λ (u : State). u .f < 2 ^ 32) (a .pre .4) (feed-fits a))))
+    (is, subst Known (sym is) (known-in (now (r .table)) (r .set) (r .s) (r .b) (a .pre .0) (a .pre .1) (a .pre .2) (a .pre .3) (feed-settled (r .s) (r .b) (a .pre .3) (feed-fits a))))
 
 pub deed-in-spec : {M : Type 1} → statement M
 deed-in-spec =

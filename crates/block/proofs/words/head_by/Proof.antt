@@ -1,7 +1,7 @@
 -- `block::words::head_by` meets its contract.
 use mathlib.Core.Logic.{inl, inr, ⊎-elim}
 use mathlib.Core.Path.{_≡_, ap, sym, _∙_}
-use Rattle.block.specs.declared.words.Head.the-variants.{ProgramLine, BlockLine}
+use Rattle.block.specs.declared.words.Head.the-variants.{ProgramLine, BlockLine, Other}
 use Rattle.block.specs.Words.{isProgramAddress, headBy, numberIn}
 use Rattle.block.proofs.Slots.{Not, head-other}
 use mir.Syntax.{w32}
@@ -31,7 +31,10 @@ returns-2 c = rw (c .match .keys2) (ap BlockLine (number (c .before)))
 
 returns-3 : tie.Need-returns-3
 unfolding Not
-returns-3 c = sym (head-other (c .before .before .before .args .w) (λ e. c .match .rest .0 .1 (inl e)) (λ e. c .match .rest .0 .1 (inr e)) (c .match .rest .1))
+returns-3 c =
+    let m = c .before in
+    let w = m .before .before .before .args .w in
+    ap Other (c .lacks-point .ensures) ∙ sym (head-other w (λ e. m .match .rest .0 .1 (inl e)) (λ e. m .match .rest .0 .1 (inr e)) (m .match .rest .1))
 
 pub head-by-spec : {M : Type 1} → statement M
-head-by-spec = tie.close (tie.spec magnitude-requires returns returns-2 returns-3)
+head-by-spec = tie.close (tie.spec magnitude-requires (λ c κs. search needs) returns returns-2 returns-3)

@@ -81,7 +81,7 @@ slot-of-requires c κs = index (c .before .before .before)
 
 add-n : tie.Need-add-n Inv-loop μ-loop
 add-n c =
-    let l = c .before .before .before .before .before .before .before .before .before in
+    let l = c .before .before .before .before .before .before .before .before .before .before in
     let h : length (l .before .before .before .args .line .now) ≤ 160 = l .before .before .before .pre .1 in
     let k : l .loop .b .words ≤ l .loop .i = l .loop .inv .1 in
     let m : l .loop .i ≤ length (l .before .before .before .args .line .now) = l .loop .inv .0 in
@@ -89,7 +89,7 @@ add-n c =
 
 -- the slot is one of the array's
 slot-in : (c : tie.After-known-told2 Inv-loop μ-loop) → c .before .slot .given .0 .0 < slots
-slot-in c = subst SlotIn (c .before .slot .given .1) (c .before .before .before .before .before .slot-of .ensures .1)
+slot-in c = subst SlotIn (c .before .slot .given .1) (c .before .before .before .before .before .before .slot-of .ensures .1)
 
 mul-value : tie.Need-mul-value Inv-loop μ-loop
 mul-value c = omega (arith, slot-in c)
@@ -101,9 +101,9 @@ element-write-b : tie.Need-element-write-b Inv-loop μ-loop
 element-write-b c = slot-in c
 
 -- the word is in the block, and the words behind it are left
-module _ (e : tie.After-is-end Inv-loop μ-loop) where
+module _ (e : tie.After-lacks-point Inv-loop μ-loop) where
   abbrev word-in : tie.After-next Inv-loop μ-loop
-  word-in = e .before .before .before .before .before .before
+  word-in = e .before .before .before .before .before .before .before
 
   less :
       let l = word-in .before .before .before in
@@ -123,7 +123,7 @@ module _ (e : tie.After-is-end Inv-loop μ-loop) where
         p .1,
         omega arith,
         l .loop .inv .2 ∙ rest-word (s .args .line .now) (l .loop .i) (l .loop .inv .0) (l .loop .b) (sym (n .next-word .ensures .0) ∙ word-in .next .given .1)
-            (sym (e .before .before .before .before .is-program-address .ensures) ∙ e .before .before .before .if1 .left) ∙ ap (λ (x : Block). gather x (wordsFrom (s .args .line .now) (word-in .next .given .0 .1 .0))) (sym h),
+            (sym (e .before .before .before .before .before .is-program-address .ensures) ∙ e .before .before .before .before .if1 .left) ∙ ap (λ (x : Block). gather x (wordsFrom (s .args .line .now) (word-in .next .given .0 .1 .0))) (sym h),
       )
 
 loop-less : tie.Need-loop-less Inv-loop μ-loop
@@ -134,7 +134,7 @@ loop-again c =
     let e = c .before .before .before in
     let w = word-in e .next .given .0 .0 in
     let b = word-in e .before .before .before .loop .b in
-    again e (stored b w (c .before .slot .given .0 .0) (same-value (e .before)) (e .is-end .ensures) ∙ put-by b w (sym (e .before .before .slot-of .ensures .0) ∙ c .before .slot .given .1))
+    again e (stored b w (c .before .slot .given .0 .0) (same-value (e .before .before)) (e .before .is-end .ensures) (e .lacks-point .ensures) ∙ put-by b w (sym (e .before .before .before .slot-of .ensures .0) ∙ c .before .slot .given .1))
 
 loop-less-2 : tie.Need-loop-less-2 Inv-loop μ-loop
 loop-less-2 c = less (c .before .before)
@@ -144,7 +144,7 @@ loop-again-2 c =
     let e = c .before .before in
     let w = word-in e .next .given .0 .0 in
     let b = word-in e .before .before .before .loop .b in
-    again e (noted b w true (b .unknown) (e .is-end .ensures) ∙ put-by b w {k = Late} (sym (e .before .before .slot-of .ensures .0) ∙ c .enum-told3 .given .1))
+    again e (noted b w true (b .unknown) (e .before .is-end .ensures) (e .lacks-point .ensures) ∙ put-by b w {k = Late} (sym (e .before .before .before .slot-of .ensures .0) ∙ c .enum-told3 .given .1))
 
 loop-less-3 : tie.Need-loop-less-3 Inv-loop μ-loop
 loop-less-3 c = less (c .before .before)
@@ -154,7 +154,7 @@ loop-again-3 c =
     let e = c .before .before in
     let w = word-in e .next .given .0 .0 in
     let b = word-in e .before .before .before .loop .b in
-    again e (noted b w (b .late) true (e .is-end .ensures) ∙ put-by b w {k = Unknown} (sym (e .before .before .slot-of .ensures .0) ∙ c .enum-told4 .given .1))
+    again e (noted b w (b .late) true (e .before .is-end .ensures) (e .lacks-point .ensures) ∙ put-by b w {k = Unknown} (sym (e .before .before .before .slot-of .ensures .0) ∙ c .enum-told4 .given .1))
 
 pub read-rest-spec : {M : Type 1} → statement M
 read-rest-spec =
@@ -175,6 +175,7 @@ read-rest-spec =
     (λ c κs. search needs)
     returns-3
     slot-of-requires
+    (λ c κs. search needs)
     (λ c κs. search needs)
     add-n
     (λ c. search needs)

@@ -94,7 +94,8 @@ returns-3 : tie.Need-returns-3 Inv-loop μ-loop
 returns-3 c =
     let e = c .before .before in
     let l = e .before .before .before .before .before in
-    refused-as e Other (c .enum-told2 .given .1) 5 (other-start (l .loop .inv .history) (e .before .judge-line .result .broken))
+    let lacks = c .enum-told2 .given .0 .0 in
+    refused-as e (Other lacks) (c .enum-told2 .given .1) 5 (other-start (l .loop .inv .history) lacks (e .before .judge-line .result .broken))
 
 -- ---- a program line
 -- what the table shows at the number, which the code has as an index

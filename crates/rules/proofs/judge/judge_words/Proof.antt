@@ -4,7 +4,7 @@ use borrow.Author.Needs.{needs}
 use Rattle.addresses.specs.Words.{wordsFrom}
 use Rattle.block.specs.declared.words.Rest.{Rest}
 use Rattle.block.specs.Words.{noWords, gather, reading}
-use Rattle.rules.specs.Rules.{brokenBy}
+use Rattle.rules.specs.Rules.{brokenBy, lacksBy}
 use Rattle.rules.proofs.Bare.{judged-bare, judged-faulty, judged-good}
 use Rattle.rules.proofs.judge.judge_words.Statement.{statement}
 use Rattle.rules.proofs.judge.judge_words.Tie as tie
@@ -26,12 +26,13 @@ returns-2 c =
 
 returns-3 : tie.Need-returns-3
 returns-3 c =
-    let r = c .before .before .before in
+    let l = c .before in
+    let r = l .before .before .before in
     let s = r .before .before .before in
-    (λ i. record { alarm = 0; head = s .args .head; broken = (c .breaks-behind .ensures ∙ (λ j. brokenBy (s .args .head) (r .read-rest .ensures j .block))) i; ends = r .read-rest .ensures i .block .ends })
-    ∙ sym (judged-good (reading (s .args .head) (gather noWords (wordsFrom (s .args .line .now) (s .args .behind)))) (ap (λ (x : Rest). x .faulty) (sym (r .read-rest .ensures)) ∙ c .before .before .if2 .left))
+    (λ i. record { alarm = 0; head = s .args .head; pointless = (l .lacks-by .ensures ∙ (λ j. lacksBy (s .args .head) (r .read-rest .ensures j .block .pointless))) i; broken = (c .breaks-behind .ensures ∙ (λ j. brokenBy (s .args .head) (r .read-rest .ensures j .block))) i; ends = r .read-rest .ensures i .block .ends })
+    ∙ sym (judged-good (reading (s .args .head) (gather noWords (wordsFrom (s .args .line .now) (s .args .behind)))) (ap (λ (x : Rest). x .faulty) (sym (r .read-rest .ensures)) ∙ l .before .before .if2 .left))
 
 pub judge-words-spec : {M : Type 1} → statement M
 judge-words-spec =
     tie.close
-    (tie.spec (λ c κs. search needs) returns read-rest-requires (λ c κs. search needs) returns-2 (λ c κs. search needs) returns-3)
+    (tie.spec (λ c κs. search needs) returns read-rest-requires (λ c κs. search needs) returns-2 (λ c κs. search needs) (λ c κs. search needs) returns-3)
