@@ -14,7 +14,7 @@ static const int32_t settings[TM02_SETTINGS] = {
     [TM02_SET_MAIN] = 1,           [TM02_SET_LOWEST] = 80,        [TM02_SET_RETRACT] = 500,
     [TM02_SET_START_X] = 60000,    [TM02_SET_START_Z] = 50000,    [TM02_SET_X_LOWEST] = -200000,
     [TM02_SET_X_HIGHEST] = 200000, [TM02_SET_Z_LOWEST] = -200000, [TM02_SET_Z_HIGHEST] = 200000,
-    [TM02_SET_EMPTY_CUTS] = 1,
+    [TM02_SET_EMPTY_CUTS] = 1,     [TM02_SET_POINTS] = 0,
 };
 
 static uint8_t list[TM02_BUFFER_SIZE];

@@ -13,8 +13,8 @@
 extern "C" {
 #endif
 
-/* The places of the ten settings. Main is 0 to 6999 and not from the lowest subroutine to 255, lowest subroutine 0 to 255, retract 0 to 32767, empty cuts (of a thread whose block
-   names none; factory 1) 0 to 32767; the others and the table's
+/* The places of the eleven settings. Main is 0 to 6999 and not from the lowest subroutine to 255, lowest subroutine 0 to 255, retract 0 to 32767, empty cuts (of a thread whose block
+   names none; factory 1) 0 to 32767, points 1 where an X, Z, U or W number without a point is alarm 21 unless it is 0, else 0; the others and the table's
    numbers are -9999999 to 9999999, no lowest limit above its highest, the start within the limits. All lengths are in 0.001 mm, and what is said of X counts on the diameter. */
 enum {
     TM02_SET_MAIN,
@@ -27,6 +27,7 @@ enum {
     TM02_SET_Z_LOWEST,
     TM02_SET_Z_HIGHEST,
     TM02_SET_EMPTY_CUTS,
+    TM02_SET_POINTS,
     TM02_SETTINGS
 };
 
@@ -85,16 +86,17 @@ enum {
     TM02_ALARM_BAD_FEED = 17,
     TM02_ALARM_OUTSIDE_LIMITS = 18,
     TM02_ALARM_BAD_LENGTHS = 19,
-    TM02_ALARM_NO_ROOM = 20
+    TM02_ALARM_NO_ROOM = 20,
+    TM02_ALARM_MISSING_POINT = 21
 };
 
-/* Runs a tape. settings: main, lowest subroutine, retract, start X, start Z, X lowest, X highest, Z lowest, Z highest, empty cuts.
+/* Runs a tape. settings: main, lowest subroutine, retract, start X, start Z, X lowest, X highest, Z lowest, Z highest, empty cuts, points.
    answer: bits 0-15 the records written, bits 16-31 the place on the tape, bits 32-39 the alarm, 0 where the list is complete.
 
    Where the list is complete, its header and its records are at the front of the buffer, and the place is 0. On an alarm the records of the blocks before it stand behind the header's
    place, and no header is written: an older one may still stand there, so go by the answer alone. All other bytes of the buffer are as they came. The bits above 39 are 0.
 
-   No number has to be checked before the call: settings_len other than 10, table_len other than 208 or a number out of its range is alarm 1. The caller owes what C cannot check: no
+   No number has to be checked before the call: settings_len other than 11, table_len other than 208 or a number out of its range is alarm 1. The caller owes what C cannot check: no
    pointer is null, not even where its length is 0; each points to as many elements as its length says; table and settings are aligned as int32_t; the buffer overlaps none of the other
    three; and nothing else writes to any of them, or reads the buffer, during the call.
 

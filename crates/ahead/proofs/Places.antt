@@ -1,7 +1,7 @@
 -- Laws of the places that the runner goes to: each is that of a line of the tape.
 -- Assumes nothing.
 use mathlib.Core.Path.{_≡_, refl}
-use mathlib.Core.Bool.{_||_}
+use mathlib.Core.Bool.{false, _||_}
 use mathlib.Core.List.{List, [], _∷_}
 use Prim.Native.Nat.{ℕ, zero, suc, _<_}
 use lib.Dec.{ltb, eqb}
@@ -77,7 +77,7 @@ OnwardOn n (Call p times) = p < n
 OnwardOn n (Jump p) = p < n
 OnwardOn n Return = Unit {0}
 OnwardOn n End = Unit {0}
-OnwardOn n (Stop alarm place) = IsAlarm alarm
+OnwardOn n (Stop alarm place) = IsAlarm false alarm
 
 called-on : (n : ℕ) (f : Found) (r : Frame) (times : ℕ) → FoundIn n f → OnwardOn n (calledAt f r times)
 unfolding calledAt

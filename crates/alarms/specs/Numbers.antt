@@ -76,3 +76,7 @@ badLengths = 19
 -- "records above 4,000 or above the buffer"
 abbrev pub noRoom : ℕ
 noRoom = 20
+
+-- 02: "a setting turns missing points into an alarm for X Z U W"
+abbrev pub missingPoint : ℕ
+missingPoint = 21

@@ -37,3 +37,5 @@ pub const OUTSIDE_LIMITS: u8 = 18;
 pub const BAD_LENGTHS: u8 = 19;
 
 pub const NO_ROOM: u8 = 20;
+
+pub const MISSING_POINT: u8 = 21;

@@ -59,12 +59,12 @@ module _ (tape : List ℕ) (table numbers : List ℤ) (b : List ℕ) where
     pub ran-here : {a : Answer} → a ≡ answerOf tape table set (length b) → {r : ℕ} {e : List ℕ} → Packed a r → e ≡ bufferOf tape table set b → Opened r e
     ran-here k {r} p l = opened-by is-run (subst (λ (x : Answer). Packed x r) k p) l
 
-  owed-by : (set : Settings) → set ≡ settingsOf numbers → (bad : Bool) → unfit numbers ≡ bad → DemandOneAtDoor tape table numbers b
-  owed-by set s true h = subst (λ (x : Result). Owed (length tape) x b) (sym (is-refused h)) (none-owed (length tape) b badSettings 0 refl (omega arith) (omega arith))
-  owed-by set s false h = subst (λ (x : Result). Owed (length tape) x b) (sym (is-run h s)) (demand-one tape table set b)
+  owed-by : (bad : Bool) → unfit numbers ≡ bad → DemandOneAtDoor tape table numbers b
+  owed-by true h = subst (λ (x : Result). Owed (settingsOf numbers .points) (length tape) x b) (sym (is-refused h)) (none-owed (settingsOf numbers .points) (length tape) b badSettings 0 refl (omega arith) (omega arith))
+  owed-by false h = subst (λ (x : Result). Owed (settingsOf numbers .points) (length tape) x b) (sym (is-run h refl)) (demand-one tape table (settingsOf numbers) b)
 
   pub demand-one-at-door : DemandOneAtDoor tape table numbers b
-  demand-one-at-door = owed-by (settingsOf numbers) refl (unfit numbers) refl
+  demand-one-at-door = owed-by (unfit numbers) refl
 
   pub answer-fits : (set : Settings) {a : Answer} → a ≡ answerOf tape table set (length b) → Fits a
   answer-fits set {a} k =

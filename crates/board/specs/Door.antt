@@ -31,7 +31,7 @@ pub record Packed (a : Answer) (r : ℕ) : Type 0 where
 
 -- DEMAND 1 at the door, of every tape, table, row of settings and buffer
 abbrev pub DemandOneAtDoor : List ℕ → List ℤ → List ℤ → List ℕ → Type 0
-DemandOneAtDoor tape table numbers b = Owed (length tape) (atDoor tape table numbers (length b)) b
+DemandOneAtDoor tape table numbers b = Owed (settingsOf numbers .points) (length tape) (atDoor tape table numbers (length b)) b
 
 -- ---- what is known of an answer before it is packed
 -- an answer whose place and count have 16 bits

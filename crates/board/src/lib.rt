@@ -1,5 +1,5 @@
 // THE BOARD'S DOOR: the one function that the control's firmware, which is written in C, calls. include/tm02.h declares it for C.
-// Settings come as ten numbers and the answer goes as one. No caller has to check a number first: settings that are not ten numbers, or of which one is out of range, are alarm 1.
+// Settings come as eleven numbers and the answer goes as one. No caller has to check a number first: settings that are not eleven numbers, or of which one is out of range, are alarm 1.
 use answers::Answer;
 ghost use mathlib.Core.Path.{_≡_};
 ghost use Prim.Native.Nat.{_+_, _*_, _<_};

@@ -27,6 +27,7 @@ fn settings_of(given: &[i32; ALL]) -> [i32; settings::row::COUNT] {
         given[stored::given::Z_LOW],
         given[stored::given::Z_HIGH],
         given[stored::given::EMPTY],
+        given[stored::given::POINTS],
     ]
 }
 

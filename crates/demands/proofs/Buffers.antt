@@ -17,6 +17,7 @@ use Rattle.settings.specs.Known.{Table}
 use Rattle.state.specs.Known.{Sound}
 use Rattle.state.proofs.Ranges.{start-sound}
 use Rattle.settings.specs.Known.{InRange}
+use Rattle.settings.specs.Points.{withPoints}
 use Rattle.settings.specs.declared.control.Settings.{Settings}
 use Rattle.machine.proofs.Running.{sound-after}
 use Rattle.ahead.specs.Ahead.{mostCalls, onto}
@@ -189,4 +190,4 @@ module _ (P : Task → State → Block → List Record → Type 0)
   pub every-read : (tape : List ℕ) (table : List ℤ) (set : Settings) (b : List ℕ) → Shown (task tape table set (length b)) b (interpretation tape table set (length b))
   every-read tape table set b =
       every-result (λ t. Shown t b) tape table set (length b) (λ t alarm place _ _ _. none-shown t b alarm place)
-      (λ h _ k first end p on. run-shown b h (taskOf (take end tape) table set first (length b)) (k .offsets) (k .range) (start-sound (set .x) (set .z) (k .starts .x) (k .starts .z)) p on)
+      (λ h _ k first end p on. run-shown b h (taskOf (take end tape) table (withPoints false set) first (length b)) (k .offsets) (k .range) (start-sound (set .x) (set .z) (k .starts .x) (k .starts .z)) p on)

@@ -1,13 +1,14 @@
 -- Demand 3 and the promise of threads hold of every input.
 -- Assumes nothing.
 use mathlib.Core.Path.{_≡_, refl}
-use mathlib.Core.Bool.{true}
+use mathlib.Core.Bool.{true, false}
 use mathlib.Core.List.{List, [], _∷_}
 use Prim.Native.Nat.{ℕ, _+_, _<_}
 use lib.IntN.{ℤ}
 use lib.ListN.{length, take}
 use Rattle.moves.specs.declared.record.Record.{Record}
 use Rattle.block.specs.declared.words.Block.{Block}
+use Rattle.settings.specs.Points.{withPoints}
 use Rattle.settings.specs.declared.control.Settings.{Settings}
 use Rattle.state.specs.declared.modal.State.{State}
 use Rattle.turning.specs.Turned.{Turned}
@@ -56,7 +57,7 @@ module _ (P : Task → State → Block → List Record → Type 0)
 
   every-run : (tape : List ℕ) (table : List ℤ) (set : Settings) (bytes : ℕ) → Shown (task tape table set bytes) (interpretation tape table set bytes)
   every-run tape table set bytes =
-      every-result Shown tape table set bytes (λ t alarm place _ _ _. none-shown t alarm place) (λ _ _ _ first end p on. run-shown (taskOf (take end tape) table set first bytes) p on)
+      every-result Shown tape table set bytes (λ t alarm place _ _ _. none-shown t alarm place) (λ _ _ _ first end p on. run-shown (taskOf (take end tape) table (withPoints false set) first bytes) p on)
 
 -- what holds of each step holds of it otherwise said
 each-from : {A B : Step → ℕ → Type 0} → ((st : Step) (k : ℕ) → A st k → B st k) → (k : ℕ) (sts : List Step) → EachFrom A k sts → EachFrom B k sts

@@ -1,6 +1,7 @@
 -- Demands 1 and 2: what the buffer holds after any answer, and that a list's bytes have one reading.
 -- Assumes nothing.
 use mathlib.Core.Path.{_≡_, refl, sym, ap, _∙_, subst}
+use mathlib.Core.Bool.{Bool, false}
 use mathlib.Core.List.{List, [], _∷_, _++_, append-assoc}
 use Prim.Native.Nat.{ℕ, _+_, _-_, _*_, _/_, _%_, _<_, _≤_}
 use native.Mathlib.Omega.{arith}
@@ -10,7 +11,7 @@ use lib.Seq.{take-at, drop-at}
 use Rattle.whole.specs.Bytes.{laid}
 use Rattle.whole.proofs.Laying.{laid-nil}
 use Rattle.alarms.specs.Given.{IsAlarm}
-use Rattle.alarms.proofs.Above.{not-eight}
+use Rattle.alarms.proofs.Above.{not-eight, given-more}
 use Rattle.moves.specs.Form.{headerSize, recordSize, recordStart, recordLimit, roomOf, headerBytes, rowBytes, listBytes, AllFitting, LawfulList}
 use Rattle.moves.specs.Reading.{recordsIn, countIn, listIn, rowIn}
 use Rattle.moves.specs.declared.record.Record.{Record}
@@ -19,6 +20,7 @@ use Rattle.settings.specs.Known.{Table}
 use Rattle.state.specs.Known.{Sound}
 use Rattle.state.proofs.Ranges.{start-sound}
 use Rattle.settings.specs.Known.{InRange}
+use Rattle.settings.specs.Points.{withPoints}
 use Rattle.settings.specs.declared.control.Settings.{Settings}
 use Rattle.machine.proofs.Running.{done-few}
 use Rattle.moves.proofs.Room.{room-few, room-fits}
@@ -88,8 +90,8 @@ module _ (a : Answer) (b e : List ℕ) (rs : List Record) (f : Form a b e rs) (f
       sized = omega (arith, length-append (f .before ++ rowBytes rs) (drop (recordStart (length rs)) b), rows, length-drop (recordStart (length rs)) b, room)
 
 -- ---- of a run
-record Shown (size : ℕ) (b : List ℕ) (x : Result) : Type 0 where
-  one : Owed size x b
+record Shown (points : Bool) (size : ℕ) (b : List ℕ) (x : Result) : Type 0 where
+  one : Owed points size x b
   two : (count : ℕ) → x .answer ≡ Complete count → IsList count (laidBy x b) (recordsOf (x .steps))
 
 no-list : (alarm place n count : ℕ) → Alarm alarm place n ≡ Complete count → ⊥
@@ -100,24 +102,24 @@ no-list alarm place n count e = subst alarmed e tt
     alarmed (Complete m) = ⊥
 
 -- an alarm before any block is begun
-pub none-owed : (size : ℕ) (b : List ℕ) (alarm place : ℕ) → IsAlarm alarm → place ≤ size - 1 → place ≤ longestTape → Owed size (refused alarm place) b
+pub none-owed : (points : Bool) (size : ℕ) (b : List ℕ) (alarm place : ℕ) → IsAlarm points alarm → place ≤ size - 1 → place ≤ longestTape → Owed points size (refused alarm place) b
 unfolding laidBy recordsOf rowBytes rowIn
-none-owed size b alarm place some on near =
+none-owed points size b alarm place some on near =
     let same : laid b (recordStart 0) [] ≡ b = laid-nil b (recordStart 0) in record {
       holds = record { counted = refl; records = refl; written = refl; front = ap (take headerSize) same; behind = ap (drop (recordStart 0)) same; size = ap length same };
       told = record { number = some; place = on; near = near; count = omega arith };
     }
 
-none-shown : (size : ℕ) (b : List ℕ) (alarm place : ℕ) → IsAlarm alarm → place ≤ size - 1 → place ≤ longestTape → Shown size b (refused alarm place)
-none-shown size b alarm place some on near = record { one = none-owed size b alarm place some on near; two = λ count e. absurd (no-list alarm place 0 count e) }
+none-shown : (points : Bool) (size : ℕ) (b : List ℕ) (alarm place : ℕ) → IsAlarm points alarm → place ≤ size - 1 → place ≤ longestTape → Shown points size b (refused alarm place)
+none-shown points size b alarm place some on near = record { one = none-owed points size b alarm place some on near; two = λ count e. absurd (no-list alarm place 0 count e) }
 
 -- the numbers of an answer that a run comes to
-told-by : (h : Ending) (n cut size : ℕ) → cut ≤ size → size ≤ longestTape → StopsOn cut h → n ≤ recordLimit → Told size (answerBy h n)
+told-by : (points : Bool) (h : Ending) (n cut size : ℕ) → cut ≤ size → size ≤ longestTape → StopsOn cut h → n ≤ recordLimit → Told points size (answerBy h n)
 unfolding answerBy
-told-by Ended n cut size short near on few = record { number = tt; place = omega arith; near = omega arith; count = few }
-told-by (Stopped alarm place) n cut size short near on few =
-    record { number = on .0; place = omega (arith, short, on .1); near = omega (arith, short, near, on .1); count = few }
-told-by Returned n cut size short near on few = record { number = refl; place = omega arith; near = omega arith; count = few }
+told-by points Ended n cut size short near on few = record { number = tt; place = omega arith; near = omega arith; count = few }
+told-by points (Stopped alarm place) n cut size short near on few =
+    record { number = given-more points alarm (on .0); place = omega (arith, short, on .1); near = omega (arith, short, near, on .1); count = few }
+told-by points Returned n cut size short near on few = record { number = refl; place = omega arith; near = omega arith; count = few }
 
 -- the count of a complete list
 complete-count : {a : Answer} {count : ℕ} → a ≡ Complete count → countOf a ≡ count
@@ -147,10 +149,10 @@ listed a b e rs f lawful count k c =
       alone = λ ss tail other same. sym (one-reading rs ss (f .behind) tail lawful other (sym is ∙ same));
     }
 
-run-shown : (size : ℕ) (b : List ℕ) → headerSize ≤ length b → (t : Task) → length (t .tape) ≤ size → size ≤ longestTape → t .room ≡ roomOf (length b) → Table (t .table) → InRange (t .settings)
-    → Sound (startOf (t .settings) .state) → (p : ℕ) → p < length (t .tape) → Shown size b (resultOf (programRun t p mostCalls (startOf (t .settings))))
+run-shown : (points : Bool) (size : ℕ) (b : List ℕ) → headerSize ≤ length b → (t : Task) → length (t .tape) ≤ size → size ≤ longestTape → t .room ≡ roomOf (length b) → Table (t .table) → InRange (t .settings)
+    → Sound (startOf (t .settings) .state) → (p : ℕ) → p < length (t .tape) → Shown points size b (resultOf (programRun t p mostCalls (startOf (t .settings))))
 unfolding resultOf laidBy listBytes
-run-shown size b header t short near room known range sound p on =
+run-shown points size b header t short near room known range sound p on =
     let r = startOf (t .settings) in
     let x = programRun t p mostCalls r in
     let leads = program-leads t p mostCalls r on in
@@ -168,7 +170,7 @@ run-shown size b header t short near room known range sound p on =
     let lawful : LawfulList rs = record { few = omega (arith, many, few, room, room-few (length b)); each = fits } in record {
       one = record {
         holds = holds a b (headed a e) rs f fits (count-by (x .outcome .ending) n ∙ many) inside;
-        told = told-by (x .outcome .ending) n (length (t .tape)) size short near (leads .stops) (omega (arith, few, room, room-few (length b)));
+        told = told-by points (x .outcome .ending) n (length (t .tape)) size short near (leads .stops) (omega (arith, few, room, room-few (length b)));
       };
       two = λ count k. listed a b (headed a e) rs f lawful count k (sym (complete-count k) ∙ count-by (x .outcome .ending) n ∙ many);
     }
@@ -178,11 +180,11 @@ cut-short : (end : ℕ) (tape : List ℕ) → length (take end tape) ≤ length 
 cut-short end tape = omega (arith, length-take end tape)
 
 module _ (tape : List ℕ) (table : List ℤ) (set : Settings) (b : List ℕ) where
-  shown : Shown (length tape) b (interpretation tape table set (length b))
+  shown : Shown (set .points) (length tape) b (interpretation tape table set (length b))
   shown =
-      every-result (λ _. Shown (length tape) b) tape table set (length b) (λ _ alarm place some on near. none-shown (length tape) b alarm place some on near)
+      every-result (λ _. Shown (set .points) (length tape) b) tape table set (length b) (λ _ alarm place some on near. none-shown (set .points) (length tape) b alarm place some on near)
       (λ h near k first end p on.
-      run-shown (length tape) b h (taskOf (take end tape) table set first (length b)) (cut-short end tape) near refl (k .offsets) (k .range)
+      run-shown (set .points) (length tape) b h (taskOf (take end tape) table (withPoints false set) first (length b)) (cut-short end tape) near refl (k .offsets) (k .range)
       (start-sound (set .x) (set .z) (k .starts .x) (k .starts .z)) p on)
 
   pub demand-one : DemandOne tape table set b
@@ -193,4 +195,4 @@ module _ (tape : List ℕ) (table : List ℤ) (set : Settings) (b : List ℕ) wh
 
   -- 02: "Show that 8 is never given"
   pub never-eight : (place count : ℕ) → answerOf tape table set (length b) ≡ Alarm 8 place count → ⊥
-  never-eight place count e = not-eight (subst Named e (demand-one .told .number))
+  never-eight place count e = not-eight (set .points) (subst (Named (set .points)) e (demand-one .told .number))

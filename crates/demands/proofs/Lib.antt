@@ -12,3 +12,4 @@ pub mod Fits
 pub mod Buffers
 pub mod Holding
 pub mod Standing
+pub mod Points

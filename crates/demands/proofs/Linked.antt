@@ -1,7 +1,7 @@
 -- The steps of a run are a chain. This is the only induction over the fuel, the calls, the repeats and the returns.
 -- Assumes nothing.
 use mathlib.Core.Path.{_≡_, refl, sym, ap, _∙_, subst}
-use mathlib.Core.Bool.{Bool, cond}
+use mathlib.Core.Bool.{Bool, false, cond}
 use mathlib.Core.List.{List, [], _∷_, _++_}
 use Prim.Native.Nat.{ℕ, zero, suc, _-_, _<_}
 use native.Mathlib.Omega.{arith}
@@ -74,9 +74,9 @@ unfolding Linked
 linked-append t [] w r q s h k = subst (λ (x : Run). Linked t x w s) (sym h) k
 linked-append t (st ∷ v) w r q s h k = (h .0, linked-append t v w (runAfter t (st .place) r) q s (h .1) k)
 
--- an alarm that stops a run is one of 01's and has its place on the tape
+-- an alarm that stops a run is one of those that are given whatever the settings are, and has its place on the tape
 abbrev pub StopsOn : ℕ → Ending → Type 0
-StopsOn n (Stopped alarm place) = IsAlarm alarm × (place < n)
+StopsOn n (Stopped alarm place) = IsAlarm false alarm × (place < n)
 StopsOn n Returned = Unit {0}
 StopsOn n Ended = Unit {0}
 
@@ -124,7 +124,7 @@ module _ (t : Task) (program calls : ℕ) (line : program < length (t .tape)) (c
       leads-pre t (st ∷ []) (andThen (call p n q) (k after)) r q l (leads-then t (call p n q) (k after) q (call-leads p n q goes) (f after))
   went k f Return r q after st none goes l = record { linked = l; stops = tt }
   went k f End r q after st none goes l = record { linked = l; stops = tt }
-  went k f (Stop alarm place) r q after st none goes l = absurd (alarm-above alarm goes none)
+  went k f (Stop alarm place) r q after st none goes l = absurd (alarm-above false alarm goes none)
 
   -- a refused block is no step
   stopped : (k : ℕ → Run → Ran) (r : Run) (alarm place after : ℕ) (st : Step) → StopsOn (length (t .tape)) (Stopped alarm place)
@@ -152,7 +152,7 @@ module _ (t : Task) (program calls : ℕ) (line : program < length (t .tape)) (c
         (one r (runAfter t at r) this (record { frame = on at; begun = refl; free = e; wrote = records-free t (on at) r e }) refl))
     by-alarm (suc a) e =
         by-done (done-alarm t (on at) r (λ z. omega (arith, e, z)))
-        (stopped k r (alarmAt t (on at) r) at next this (given-above (alarmAt t (on at) r) (block-named t (on at) r) (λ z. omega (arith, e, z)), here))
+        (stopped k r (alarmAt t (on at) r) at next this (given-above false (alarmAt t (on at) r) (block-named t (on at) r) (λ z. omega (arith, e, z)), here))
 
   -- ---- a step from a place on
   module _ (k : ℕ → Run → Ran) (f : (p : ℕ) (q : Run) → Leads t q (k p q)) where

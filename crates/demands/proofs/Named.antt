@@ -8,7 +8,7 @@ use lib.Dec.{ltb, eqb}
 use lib.IntN.{ℤ}
 use lib.ListN.{length}
 use borrow.Author.Tests.{ne-eqb}
-use Rattle.alarms.specs.Numbers.{badLineStart, lineTooLong, badByteOrNumber, wordRules, noMotion, notRapid, badFeed, outsideLimits, badLengths, noRoom}
+use Rattle.alarms.specs.Numbers.{badLineStart, lineTooLong, badByteOrNumber, wordRules, noMotion, notRapid, badFeed, outsideLimits, badLengths, noRoom, missingPoint}
 use Rattle.alarms.specs.Given.{given, IsAlarm}
 use Rattle.whole.specs.Among.{among}
 use Rattle.settings.specs.Wrong.{highestProgram}
@@ -33,44 +33,52 @@ use Rattle.steps.specs.declared.step.Run.{Run}
 use Rattle.ahead.proofs.Places.{OnwardOn}
 use Rattle.steps.proofs.Stepping.{onward-on}
 
--- 0, or an alarm that is given
-abbrev pub NoneOrGiven : ℕ → Type 0
-NoneOrGiven n = among n (0 ∷ given) ≡ true
+-- 0, or an alarm that is given where points are asked for or not
+abbrev pub NoneOrGiven : Bool → ℕ → Type 0
+NoneOrGiven points n = among n (0 ∷ given points) ≡ true
 
-pub given-above : (n : ℕ) → NoneOrGiven n → (n ≡ 0 → ⊥) → IsAlarm n
-given-above n h e = ap (λ (t : Bool). t || among n given) (sym (ne-eqb n 0 e)) ∙ h
+pub given-above : (points : Bool) (n : ℕ) → NoneOrGiven points n → (n ≡ 0 → ⊥) → IsAlarm points n
+given-above points n h e = ap (λ (t : Bool). t || among n (given points)) (sym (ne-eqb n 0 e)) ∙ h
 
 -- one of two
-either : (c : Bool) (m n : ℕ) → NoneOrGiven m → NoneOrGiven n → NoneOrGiven (cond c m n)
-either true m n h k = h
-either false m n h k = k
+either : (points c : Bool) (m n : ℕ) → NoneOrGiven points m → NoneOrGiven points n → NoneOrGiven points (cond c m n)
+either points true m n h k = h
+either points false m n h k = k
 
 -- ---- of a line
-judged-by : (c : Bool) (x y : Judged) → NoneOrGiven (x .alarm) → NoneOrGiven (y .alarm) → NoneOrGiven (cond c x y .alarm)
-judged-by true x y h k = h
-judged-by false x y h k = k
+judged-by : (points c : Bool) (x y : Judged) → NoneOrGiven points (x .alarm) → NoneOrGiven points (y .alarm) → NoneOrGiven points (cond c x y .alarm)
+judged-by points true x y h k = h
+judged-by points false x y h k = k
 
-judged-named : (s : List ℕ) → NoneOrGiven (judged s .alarm)
+judged-named : (points : Bool) (s : List ℕ) → NoneOrGiven points (judged s .alarm)
 unfolding judged
-judged-named s =
+judged-named points s =
     let r = lineOf s in
     let well : Judged = record { alarm = 0; head = r .head; pointless = lacksBy (r .head) (r .block .pointless); broken = brokenBy (r .head) (r .block); ends = r .block .ends } in
-    judged-by (ltb longestLine (length s)) (refusedLine lineTooLong) (judgedBy r) refl (judged-by (r .faulty) (refusedLine badByteOrNumber) well refl refl)
+    judged-by points (ltb longestLine (length s)) (refusedLine lineTooLong) (judgedBy r) refl (judged-by points (r .faulty) (refusedLine badByteOrNumber) well refl refl)
 
-head-named : (h : History) (k : Head) (broken : Bool) → NoneOrGiven (headAlarm h k broken)
+head-named : (points : Bool) (h : History) (k : Head) (broken : Bool) → NoneOrGiven points (headAlarm h k broken)
 unfolding headAlarm
-head-named h Blank broken = refl
-head-named h (Other lacks) broken = refl
-head-named h (ProgramLine n) broken = either (ltb highestProgram n || among n (h .programs)) badLineStart (cond broken wordRules 0) refl (either broken wordRules 0 refl refl)
-head-named h (BlockLine n) broken = either (among n (h .blocks)) badLineStart (cond broken wordRules 0) refl (either broken wordRules 0 refl refl)
+head-named points h Blank broken = refl
+head-named points h (Other lacks) broken = refl
+head-named points h (ProgramLine n) broken = either points (ltb highestProgram n || among n (h .programs)) badLineStart (cond broken wordRules 0) refl (either points broken wordRules 0 refl refl)
+head-named points h (BlockLine n) broken = either points (among n (h .blocks)) badLineStart (cond broken wordRules 0) refl (either points broken wordRules 0 refl refl)
 
-pub line-named : (h : History) (s : List ℕ) → NoneOrGiven (lineAlarm h (judged s))
+-- 21 is given where points are asked for
+point-named : (points pointless : Bool) (n : ℕ) → NoneOrGiven points n → NoneOrGiven points (cond (points && pointless) missingPoint n)
+point-named true true n h = refl
+point-named true false n h = h
+point-named false pointless n h = h
+
+pub line-named : (points : Bool) (h : History) (s : List ℕ) → NoneOrGiven points (lineAlarm points h (judged s))
 unfolding lineAlarm
-line-named h s =
-    let j = judged s in either (eqb (j .alarm) 0) (headAlarm h (j .head) (j .broken)) (j .alarm) (head-named h (j .head) (j .broken)) (judged-named s)
+line-named points h s =
+    let j = judged s in
+    let head = headAlarm h (j .head) (j .broken) in
+    either points (eqb (j .alarm) 0) (cond (points && j .pointless) missingPoint head) (j .alarm) (point-named points (j .pointless) head (head-named points h (j .head) (j .broken))) (judged-named points s)
 
--- ---- of a block
-deed-named : (q : Asks) (a : Asked) → NoneOrGiven (alarmOf q a)
+-- ---- of a block: whatever the settings are
+deed-named : (q : Asks) (a : Asked) → NoneOrGiven false (alarmOf q a)
 unfolding alarmOf
 deed-named q a =
     let room = cond (roomWrong (q .count) a) noRoom 0 in
@@ -78,13 +86,13 @@ deed-named q a =
     let lengths = cond (q .wrong) badLengths ends in
     let feed = cond (feedWrong (q .least) (a .f)) badFeed lengths in
     let late = a .«rapid_due» && q .waits in
-    either (q .nowhere) noMotion (cond late notRapid feed) refl
-    (either late notRapid feed refl
-    (either (feedWrong (q .least) (a .f)) badFeed lengths refl
-    (either (q .wrong) badLengths ends refl
-    (either (q .outside) outsideLimits room refl (either (roomWrong (q .count) a) noRoom 0 refl refl)))))
+    either false (q .nowhere) noMotion (cond late notRapid feed) refl
+    (either false late notRapid feed refl
+    (either false (feedWrong (q .least) (a .f)) badFeed lengths refl
+    (either false (q .wrong) badLengths ends refl
+    (either false (q .outside) outsideLimits room refl (either false (roomWrong (q .count) a) noRoom 0 refl refl)))))
 
-own-named : (table : List ℤ) (set : Settings) (s : State) (b : Block) (left : ℕ) → NoneOrGiven (alarmIn table set s b left)
+own-named : (table : List ℤ) (set : Settings) (s : State) (b : Block) (left : ℕ) → NoneOrGiven false (alarmIn table set s b left)
 unfolding alarmIn
 own-named table set s b left = deed-named (asksIn table set s b) (askedIn s b left)
 
@@ -92,20 +100,20 @@ or-given : (a b : Bool) → b ≡ true → (a || b) ≡ true
 or-given true b h = refl
 or-given false b h = h
 
-asked-named : (n : ℕ) (w : Onward) → OnwardOn n w → NoneOrGiven (alarmBy w)
+asked-named : (n : ℕ) (w : Onward) → OnwardOn n w → NoneOrGiven false (alarmBy w)
 unfolding alarmBy
 asked-named n On h = refl
 asked-named n (Call p times) h = refl
 asked-named n (Jump p) h = refl
 asked-named n Return h = refl
 asked-named n End h = refl
-asked-named n (Stop alarm place) h = or-given (eqb alarm 0) (among alarm given) h
+asked-named n (Stop alarm place) h = or-given (eqb alarm 0) (among alarm (given false)) h
 
-pub block-named : (t : Task) (f : Frame) (r : Run) → NoneOrGiven (alarmAt t f r)
+pub block-named : (t : Task) (f : Frame) (r : Run) → NoneOrGiven false (alarmAt t f r)
 unfolding alarmAt
 block-named t f r =
     let b = blockOn (t .tape) (f .at) in
     let asked = alarmBy (onwardOf t f r) in
     let own = alarmIn (t .table) (t .settings) (r .state) b (t .room - r .count) in
-    either (eqb asked 0) own asked (own-named (t .table) (t .settings) (r .state) b (t .room - r .count))
+    either false (eqb asked 0) own asked (own-named (t .table) (t .settings) (r .state) b (t .room - r .count))
     (asked-named (length (t .tape)) (onwardOf t f r) (onward-on (t .tape) (t .settings) (t .first) f (r .«blocks_left») b))

@@ -28,7 +28,8 @@ use Rattle.answers.specs.Answers.{startOf}
 use Rattle.runners.specs.Runs.{programRun}
 use Rattle.settings.specs.Wrong.{settingsWrong}
 use Rattle.settings.specs.Known.{Right}
-use Rattle.settings.proofs.Right.{right}
+use Rattle.settings.specs.Points.{withPoints}
+use Rattle.settings.proofs.Right.{right, right-points}
 use Rattle.demands.specs.Demands.{readTask, task}
 use Rattle.demands.proofs.Named.{given-above, line-named}
 
@@ -37,38 +38,38 @@ by-test P true x y h k = h
 by-test P false x y h k = k refl
 
 -- ---- an alarm of reading is one of 01's and has the place of a line, or of no byte on an empty tape
-abbrev AlarmOn : ℕ → Read → Type 0
-AlarmOn n (read.Whole first end) = Unit {0}
-AlarmOn n (read.Alarm alarm place) = IsAlarm alarm × (place ≤ n - 1)
+abbrev AlarmOn : Bool → ℕ → Read → Type 0
+AlarmOn points n (read.Whole first end) = Unit {0}
+AlarmOn points n (read.Alarm alarm place) = IsAlarm points alarm × (place ≤ n - 1)
 
-lines-on : (first end n : ℕ) (h : History) (ts : List Text) → AllIn n ts → AlarmOn n (readLines first end h ts)
+lines-on : (points : Bool) (first end n : ℕ) (h : History) (ts : List Text) → AllIn n ts → AlarmOn points n (readLines points first end h ts)
 unfolding readLines
-lines-on first end n h [] a = tt
-lines-on first end n h (t ∷ ts) a =
+lines-on points first end n h [] a = tt
+lines-on points first end n h (t ∷ ts) a =
     let j = judged (t .bytes) in
-    let rest = readLines first end (noted h (j .head)) ts in
-    by-test (AlarmOn n) (eqb (lineAlarm h j) 0) _ (read.Alarm (lineAlarm h j) (t .place))
-    (by-test (AlarmOn n) (endsWith (j .head) (j .ends)) (read.Whole first (t .after)) rest tt λ _. lines-on first end n (noted h (j .head)) ts (a .1))
-    (λ e. (given-above (lineAlarm h j) (line-named h (t .bytes)) (eqb-false (lineAlarm h j) 0 e), omega (arith, a .0)))
+    let rest = readLines points first end (noted h (j .head)) ts in
+    by-test (AlarmOn points n) (eqb (lineAlarm points h j) 0) _ (read.Alarm (lineAlarm points h j) (t .place))
+    (by-test (AlarmOn points n) (endsWith (j .head) (j .ends)) (read.Whole first (t .after)) rest tt λ _. lines-on points first end n (noted h (j .head)) ts (a .1))
+    (λ e. (given-above points (lineAlarm points h j) (line-named points h (t .bytes)) (eqb-false (lineAlarm points h j) 0 e), omega (arith, a .0)))
 
-read-on : (tape : List ℕ) → AlarmOn (length tape) (readOf tape)
+read-on : (points : Bool) (tape : List ℕ) → AlarmOn points (length tape) (readOf points tape)
 unfolding readOf
-read-on tape =
+read-on points tape =
     let first = seekFrom opensTape tape 0 in
-    by-test (AlarmOn (length tape)) (ltb first (length tape)) _ _ (lines-on first (length tape) (length tape) nothingRead (lines tape first) (lines-in tape first)) λ _. (refl, omega arith)
+    by-test (AlarmOn points (length tape)) (ltb first (length tape)) _ _ (lines-on points first (length tape) (length tape) nothingRead (lines tape first) (lines-in tape first)) λ _. (refl, omega arith)
 
 -- ---- what comes of every input
 module _ (P : Task → Result → Type 0) (tape : List ℕ) (table : List ℤ) (set : Settings) (bytes : ℕ)
-    (none : (t : Task) (alarm place : ℕ) → IsAlarm alarm → place ≤ length tape - 1 → place ≤ longestTape → P t (refused alarm place))
-    (some : headerSize ≤ bytes → length tape ≤ longestTape → Right table set → (first end p : ℕ) → let t = taskOf (take end tape) table set first bytes in
-    p < length (t .tape) → P t (resultOf (programRun t p mostCalls (startOf set)))) where
-  main-is : headerSize ≤ bytes → length tape ≤ longestTape → Right table set → (first end : ℕ) → let t = taskOf (take end tape) table set first bytes in
+    (none : (t : Task) (alarm place : ℕ) → IsAlarm (set .points) alarm → place ≤ length tape - 1 → place ≤ longestTape → P t (refused alarm place))
+    (some : headerSize ≤ bytes → length tape ≤ longestTape → Right table (withPoints false set) → (first end p : ℕ) → let t = taskOf (take end tape) table (withPoints false set) first bytes in
+    p < length (t .tape) → P t (resultOf (programRun t p mostCalls (startOf (withPoints false set))))) where
+  main-is : headerSize ≤ bytes → length tape ≤ longestTape → Right table (withPoints false set) → (first end : ℕ) → let t = taskOf (take end tape) table (withPoints false set) first bytes in
       (f : Found) → FoundIn (length (t .tape)) f → P t (mainBy t f)
   unfolding mainBy
   main-is h n k first end (At p) on = some h n k first end p on
   main-is h n k first end Nowhere on = none _ _ 0 refl (omega arith) (omega arith)
 
-  read-is : headerSize ≤ bytes → length tape ≤ longestTape → Right table set → (r : Read) → AlarmOn (length tape) r → P (readTask tape table set bytes r) (readThen tape table set bytes r)
+  read-is : headerSize ≤ bytes → length tape ≤ longestTape → Right table (withPoints false set) → (r : Read) → AlarmOn (set .points) (length tape) r → P (readTask tape table set bytes r) (readThen tape table set bytes r)
   unfolding readThen mainRun
   read-is h n k (read.Whole first end) on = main-is h n k first end (findProgram (set .main) (lines (take end tape) first)) (program-on (set .main) (take end tape) first)
   read-is h n k (read.Alarm alarm place) on = none _ alarm place (on .0) (on .1) (omega (arith, n, on .1))
@@ -77,8 +78,8 @@ module _ (P : Task → Result → Type 0) (tape : List ℕ) (table : List ℤ) (
   unfolding interpretation
   every-result =
       let t = task tape table set bytes in
-      let first : (alarm : ℕ) → IsAlarm alarm → P t (refused alarm 0) = λ alarm h. none t alarm 0 h (omega arith) (omega arith) in
+      let first : (alarm : ℕ) → IsAlarm (set .points) alarm → P t (refused alarm 0) = λ alarm h. none t alarm 0 h (omega arith) (omega arith) in
       by-test (P t) (settingsWrong table set) _ _ (first _ refl) λ settings.
       by-test (P t) (ltb longestTape (length tape)) _ _ (first _ refl) λ short.
       by-test (P t) (ltb bytes headerSize) _ _ (first _ refl) λ long.
-      read-is (ltb-false bytes headerSize long) (ltb-false longestTape (length tape) short) (right table set settings) (readOf tape) (read-on tape)
+      read-is (ltb-false bytes headerSize long) (ltb-false longestTape (length tape) short) (right-points false (right table set settings)) (readOf (set .points) tape) (read-on (set .points) tape)

@@ -7,10 +7,10 @@ use Rattle.whole.specs.Position.{inTable}
 use Rattle.moves.specs.Form.{roomOf}
 use Rattle.tape.specs.Lines.{seek, opensTape, isLineFeed, lineAt, gapOf, linesUp, lines}
 use Rattle.numbers.specs.Numbers.{digitsOf, unsignedPath, pathOf, digitsIn, numberOf}
-use Rattle.addresses.specs.Words.{capital, endsNumber, formOf, numberWord, indexedWord, wordAt, nextWord, wordsUp, wordsFrom}
+use Rattle.addresses.specs.Words.{capital, endsNumber, formOf, numberWord, indexedWord, wordAt, nextWord, lacksPoint, wordsUp, wordsFrom}
 use Rattle.codes.specs.Codes.{gCode, mCode}
 use Rattle.block.specs.Slots.{has, groupZeroIs, codeIn, anyOf, gIn, mIn}
-use Rattle.rules.specs.Rules.{callsOrJumps, unknownNumber, lateN, afterProgram, axisTwice, lWordWrong, moreThanL, dWordWrong, broken, brokenBy, judged, callWrong, pathWrong, isForeign, dWordMissing, bitsWrong, motionWrong}
+use Rattle.rules.specs.Rules.{callsOrJumps, unknownNumber, lateN, afterProgram, axisTwice, lWordWrong, moreThanL, dWordWrong, broken, brokenBy, lacksBy, judged, callWrong, pathWrong, isForeign, dWordMissing, bitsWrong, motionWrong}
 use Rattle.block.specs.Words.{slotOf, noWords, isEnd, putWord, isProgramAddress, faultyRest, gather, headBy, headOf, lineOf}
 use Rattle.acts.specs.Acting.{returnsBy, motionBy, keep, shiftBy, endsBy, cuttingBy, revolutionBy}
 use Rattle.state.specs.Modal.{blockMotion, correctionAfter, feedAfter, dueAfter, settled}
@@ -40,8 +40,8 @@ use Rattle.demands.specs.Table.{table, allHold}
 pub pieces-come-out : allHold table ≡ true
 unfolding count pieces inTable roomOf seek opensTape isLineFeed lineAt gapOf linesUp lines digitsOf unsignedPath pathOf digitsIn numberOf capital endsNumber formOf numberWord
     indexedWord wordAt nextWord wordsUp wordsFrom gCode mCode has anyOf groupZeroIs callsOrJumps unknownNumber lateN afterProgram axisTwice lWordWrong standsFreely standsWith standsBy isTaken moreThanL
-    callWrong pathWrong isForeign dWordMissing bitsWrong motionWrong dWordWrong broken brokenBy judged slotOf noWords isEnd endsBy
-    putWord isProgramAddress faultyRest gather headBy headOf lineOf hereOf foundBy seekLine blockOfProgram headAlarm lineAlarm noted endsWith readLines readOf
+    callWrong pathWrong isForeign dWordMissing bitsWrong motionWrong dWordWrong broken brokenBy lacksBy judged slotOf noWords isEnd endsBy
+    putWord isProgramAddress faultyRest gather headBy headOf lineOf lacksPoint hereOf foundBy seekLine blockOfProgram headAlarm lineAlarm noted endsWith readLines readOf
     rapidTo feedTo dwellAt outsideSpan outside anyOutside tooShort passCount passOn passes turning recordCount wrong stepCount steps cutCount cutting dwelling plunge plunges
     grooving plungeCount recordCountGrooving codeIn gIn motionBy blockMotion keep shiftBy cuttingBy revolutionBy correctionAfter feedAfter dueAfter settled timesOf steered flowBy mIn
     requestOf pairOf correctionPair offsetOf targetX targetZ hasPath isFacing turningOf grooveOf straightIf moveOf deedOf asksOf

@@ -3,7 +3,7 @@
 -- division with that sum is shorter, none equally short has a smaller greatest depth. With or without a division no feed move of the cycle goes past the allowance in either axis." Which cycles
 -- a run opened is read off the tape and the state before each step; the depths are read off the records that the step wrote.
 use mathlib.Core.Path.{_≡_}
-use mathlib.Core.Bool.{true}
+use mathlib.Core.Bool.{Bool, true, false}
 use mathlib.Core.List.{List, [], _∷_, _++_}
 use Prim.Native.Nat.{ℕ, _+_, _-_, _*_, _<_, _≤_}
 use lib.IntN.{ℤ}
@@ -19,6 +19,7 @@ use Rattle.turning.specs.Turned.{Turned}
 use Rattle.threading.specs.Threaded.{Threaded}
 use Rattle.moves.specs.Last.{lastOf}
 use Rattle.demands.specs.Opens.{opensTurning, wantedIn, opensThreading, threadIn}
+use Rattle.settings.specs.Points.{withPoints}
 use Rattle.settings.specs.declared.control.Settings.{Settings}
 use Rattle.steps.specs.Steps.{Task, taskOf, Step, blockOn}
 use Rattle.answers.specs.Answers.{placeOf, countOf}
@@ -42,13 +43,13 @@ Cut t st =
 abbrev pub EveryCycle : Task → List Step → Type 0
 EveryCycle t sts = Each (Cut t) sts
 
--- what a run of the tape is given: the tape up to where reading ended; nothing where an alarm came before
+-- what a run of the tape is given: the tape up to where reading ended, and the settings, of which the points are no matter of a run; nothing where an alarm came before
 abbrev pub readTask : List ℕ → List ℤ → Settings → ℕ → Read → Task
-readTask tape table set bytes (read.Whole first end) = taskOf (take end tape) table set first bytes
-readTask tape table set bytes (read.Alarm alarm place) = taskOf [] table set 0 bytes
+readTask tape table set bytes (read.Whole first end) = taskOf (take end tape) table (withPoints false set) first bytes
+readTask tape table set bytes (read.Alarm alarm place) = taskOf [] table (withPoints false set) 0 bytes
 
 abbrev pub task : List ℕ → List ℤ → Settings → ℕ → Task
-task tape table set bytes = readTask tape table set bytes (readOf tape)
+task tape table set bytes = readTask tape table set bytes (readOf (set .points) tape)
 
 -- DEMAND 3, of every tape, table and settings, and every length of the buffer: every G84 that the run opened, with a division or without, in the main program, in subprograms and in repeats
 abbrev pub DemandThree : List ℕ → List ℤ → Settings → ℕ → Type 0
@@ -118,29 +119,29 @@ pub record HoldsAfter (a : Answer) (b e : List ℕ) (rs : List Record) : Type 0 
   pub behind : drop (recordStart (countOf a)) e ≡ drop (recordStart (countOf a)) b
   pub size : length e ≡ length b
 
--- an alarm is one of those that are given
-abbrev pub Named : Answer → Type 0
-Named (Complete count) = Unit {0}
-Named (Alarm alarm place count) = IsAlarm alarm
+-- an alarm is one of those that are given where points are asked for or not: 21 comes there alone
+abbrev pub Named : Bool → Answer → Type 0
+Named points (Complete count) = Unit {0}
+Named points (Alarm alarm place count) = IsAlarm points alarm
 
 -- what the numbers of an answer are, on a tape of so many bytes: the place is that of a byte of the tape, or 0, and has 16 bits; there are no more records than a list may have. (That it is
 -- the place which 01 names is in the definition of `interpretation`.)
-pub record Told (size : ℕ) (a : Answer) : Type 0 where
-  pub number : Named a
+pub record Told (points : Bool) (size : ℕ) (a : Answer) : Type 0 where
+  pub number : Named points a
   pub place : placeOf a ≤ size - 1
   pub near : placeOf a ≤ longestTape
   pub count : countOf a ≤ recordLimit
 
--- what is owed of a result, on a tape of so many bytes and in the buffer b
-pub record Owed (size : ℕ) (x : Result) (b : List ℕ) : Type 0 where
+-- what is owed of a result, with points asked for or not, on a tape of so many bytes and in the buffer b
+pub record Owed (points : Bool) (size : ℕ) (x : Result) (b : List ℕ) : Type 0 where
   pub holds : HoldsAfter (x .answer) b (laidBy x b) (recordsOf (x .steps))
-  pub told : Told size (x .answer)
+  pub told : Told points size (x .answer)
 
 -- DEMAND 1, of every tape, table, settings and buffer: "Every tape, table and lent buffer gets a move list or a named alarm, and the work ends. No caller has to check first. An alarm gives its
 -- number, the place on the tape and the count of records written; the buffer then holds the records of the blocks finished before it, and all its other bytes are as they came." (A refused
 -- block is no step. That the work ends is in the contract of `interpret`, as in every contract: a function that is proved comes back.)
 abbrev pub DemandOne : List ℕ → List ℤ → Settings → List ℕ → Type 0
-DemandOne tape table set b = Owed (length tape) (interpretation tape table set (length b)) b
+DemandOne tape table set b = Owed (set .points) (length tape) (interpretation tape table set (length b)) b
 
 -- a complete list of so many records: it is read off the bytes, its header has its count, and no other list has these bytes
 pub record IsList (count : ℕ) (e : List ℕ) (rs : List Record) : Type 0 where

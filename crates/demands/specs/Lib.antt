@@ -3,3 +3,4 @@ pub mod Table
 pub mod Steps
 pub mod Opens
 pub mod Demands
+pub mod Points

@@ -6,7 +6,7 @@ use mathlib.Core.List.{List}
 use Prim.Native.Nat.{ℕ, _≤_, _<_}
 use native.Mathlib.Omega.{arith}
 use lib.IntN.{ℤ}
-use lib.ListN.{length}
+use lib.ListN.{length, take}
 use borrow.Author.Tests.{lt-ltb, le-ltb}
 use Rattle.whole.proofs.Laying.{laid-nil}
 use Rattle.alarms.specs.Numbers.{badSettings, tapeTooLong, bufferTooShort, programMissing}
@@ -17,6 +17,7 @@ use Rattle.reading.specs.Reading.{readOf}
 use Rattle.finding.specs.declared.Found.{Found}
 use Rattle.finding.specs.declared.Found.the-variants.{At, Nowhere}
 use Rattle.reading.specs.declared.read.Read.{Read}
+use Rattle.reading.specs.declared.read.Read.the-variants.{Whole}
 use Rattle.state.proofs.Ranges.{start-sound}
 use Rattle.settings.specs.declared.control.Settings.{Settings}
 use Rattle.moves.proofs.Room.{room-few}
@@ -31,6 +32,7 @@ use Rattle.runners.specs.declared.run.Ending.{Ending}
 use Rattle.runners.specs.declared.run.Outcome.{Outcome}
 use Rattle.runners.specs.Runs.{blocksInAll, recordsOf, programRun}
 use Rattle.runners.specs.Meets.{Begins, RanMeets}
+use Rattle.settings.specs.Points.{withPoints}
 use Rattle.settings.specs.Wrong.{settingsWrong}
 use Rattle.settings.specs.Known.{Right}
 use Rattle.interpreter.specs.Answers.{Result, refused, resultOf, mainBy, mainRun, readThen, longestTape, interpretation, laidBy}
@@ -101,6 +103,12 @@ module _ (tape : List ℕ) (table : List ℤ) (set : Settings) (b : List ℕ) wh
   pub read-gives : {r s : Read} → r ≡ s → {a : Answer} {e : List ℕ} → Gives (readThen tape table set (length b) s) b a e → Gives (readThen tape table set (length b) r) b a e
   read-gives h g = gives-by b (read-is h) g
 
+  -- the run, with the points off
+  pub run-gives : (first end : ℕ) {x : Settings} → x ≡ withPoints false set → {a : Answer} {e : List ℕ} → Gives (mainRun (taskOf (take end tape) table x first (length b))) b a e
+      → Gives (readThen tape table set (length b) (Whole first end)) b a e
+  unfolding readThen
+  run-gives first end h {a} {e} g = subst (λ (x : Settings). Gives (mainRun (taskOf (take end tape) table x first (length b))) b a e) h g
+
   -- ---- alarms 1, 2 and 3
   is-wrong : settingsWrong table set ≡ true → interpretation tape table set (length b) ≡ refused badSettings 0
   unfolding interpretation
@@ -125,10 +133,10 @@ module _ (tape : List ℕ) (table : List ℤ) (set : Settings) (b : List ℕ) wh
       pub short-buffer : length b < headerSize → Gives (interpretation tape table set (length b)) b (Alarm bufferTooShort 0 0) b
       short-buffer h = gives-by b (is-short h) (none-begun bufferTooShort 0 b)
 
-      is-read : headerSize ≤ length b → interpretation tape table set (length b) ≡ readThen tape table set (length b) (readOf tape)
+      is-read : headerSize ≤ length b → interpretation tape table set (length b) ≡ readThen tape table set (length b) (readOf (set .points) tape)
       unfolding interpretation
       is-read h = rw (h1, le-ltb longestTape (length tape) h2, le-ltb (length b) headerSize h) refl
 
-      pub goes-on : headerSize ≤ length b → {r : Read} → r ≡ readOf tape → {a : Answer} {e : List ℕ} → Gives (readThen tape table set (length b) r) b a e
+      pub goes-on : headerSize ≤ length b → {r : Read} → r ≡ readOf (set .points) tape → {a : Answer} {e : List ℕ} → Gives (readThen tape table set (length b) r) b a e
           → Gives (interpretation tape table set (length b)) b a e
       goes-on h k g = gives-by b (is-read h ∙ sym (read-is k)) g

@@ -1,6 +1,7 @@
 -- What was read lies on the tape: the first line, and where reading ended.
 -- Assumes nothing.
 use mathlib.Core.Path.{_≡_, sym, subst}
+use mathlib.Core.Bool.{Bool}
 use mathlib.Core.List.{List, [], _∷_}
 use Prim.Native.Nat.{ℕ, zero, suc, _<_, _≤_}
 use native.Mathlib.Omega.{arith}
@@ -38,25 +39,25 @@ lines-from : (s : List ℕ) (p : ℕ) → AllFrom p (length s) (lines s p)
 unfolding lines
 lines-from s p = up-from (length s) p s p (omega arith)
 
-read-lines : (first n : ℕ) (h : History) (ts : List Text) → first ≤ n → AllFrom first n ts → ReadIn n (readLines first n h ts)
+read-lines : (points : Bool) (first n : ℕ) (h : History) (ts : List Text) → first ≤ n → AllFrom first n ts → ReadIn n (readLines points first n h ts)
 unfolding readLines
-read-lines first n h [] l a = (l, omega arith)
-read-lines first n h (t ∷ ts) l a =
+read-lines points first n h [] l a = (l, omega arith)
+read-lines points first n h (t ∷ ts) l a =
     let j = judged (t .bytes) in
-    let rest = readLines first n (noted h (j .head)) ts in
+    let rest = readLines points first n (noted h (j .head)) ts in
     let ends = endsWith (j .head) (j .ends) in
-    cond-ind (ReadIn n) (eqb (lineAlarm h j) 0) _ (Alarm (lineAlarm h j) (t .place))
-    (λ _. cond-ind (ReadIn n) ends (Whole first (t .after)) rest (λ _. (a .0, a .1)) (read-lines first n (noted h (j .head)) ts l (a .2)))
+    cond-ind (ReadIn n) (eqb (lineAlarm points h j) 0) _ (Alarm (lineAlarm points h j) (t .place))
+    (λ _. cond-ind (ReadIn n) ends (Whole first (t .after)) rest (λ _. (a .0, a .1)) (read-lines points first n (noted h (j .head)) ts l (a .2)))
     tt
 
-pub read-in : (tape : List ℕ) → ReadIn (length tape) (readOf tape)
+pub read-in : (points : Bool) (tape : List ℕ) → ReadIn (length tape) (readOf points tape)
 unfolding readOf
-read-in tape =
+read-in points tape =
     let first = seekFrom opensTape tape 0 in
     cond-ind (ReadIn (length tape)) (ltb first (length tape)) _ _
     (λ e.
     let l : first < length tape = ltb-true first (length tape) e in
-    read-lines first (length tape) nothingRead (lines tape first) (omega arith) (lines-from tape first))
+    read-lines points first (length tape) nothingRead (lines tape first) (omega arith) (lines-from tape first))
     tt
 
 -- so the tape can be cut there

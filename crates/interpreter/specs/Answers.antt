@@ -1,7 +1,7 @@
 -- WHAT THE INTERPRETER ANSWERS AND WHAT THE BUFFER HOLDS AFTER IT, for every tape, table, settings and buffer. 01: "1 to 4 in that order; then lines from the front, each 7, 5, 6, 8, 9; then 10 for the
--- main; then blocks as run". (02 takes 8 out.) "An alarm answers with number, place and records written. Place: .. 0 for 1 to 4 and a missing main; for 1 to 10 (main) the count is 0." "The header is written only
+-- main; then blocks as run". (02 takes 8 out, and puts 21 "after 5 and before 6".) "An alarm answers with number, place and records written. Place: .. 0 for 1 to 4 and a missing main; for 1 to 10 (main) the count is 0." "The header is written only
 -- when the run succeeds. Bytes beyond the last record stay."
-use mathlib.Core.Bool.{cond}
+use mathlib.Core.Bool.{false, cond}
 use mathlib.Core.List.{List, []}
 use Prim.Native.Nat.{ℕ, _≤_}
 use lib.Dec.{ltb}
@@ -25,6 +25,7 @@ use Rattle.answers.specs.declared.Answer.{Answer}
 use Rattle.answers.specs.declared.Answer.the-variants.{Alarm}
 use Rattle.answers.specs.Answers.{answerBy, startOf, headed}
 use Rattle.runners.specs.Runs.{Ran, recordsOf, programRun}
+use Rattle.settings.specs.Points.{withPoints}
 use Rattle.settings.specs.Wrong.{settingsWrong}
 
 -- an answer, and the steps that were taken to it
@@ -52,10 +53,10 @@ abbrev pub ReadIn : ℕ → Read → Type 0
 ReadIn n (read.Whole first end) = (first ≤ end) × (end ≤ n)
 ReadIn n (read.Alarm alarm place) = Unit {0}
 
--- a tape that was read: an alarm, or the run on the tape up to where reading ended
+-- a tape that was read: an alarm, or the run on the tape up to where reading ended. Points are asked for where a tape is read, and a run has no such setting: it is given the settings with that one off
 unfoldable pub readThen : List ℕ → List ℤ → Settings → ℕ → Read → Result
 readThen tape table set bytes (read.Alarm alarm place) = refused alarm place
-readThen tape table set bytes (read.Whole first end) = mainRun (taskOf (take end tape) table set first bytes)
+readThen tape table set bytes (read.Whole first end) = mainRun (taskOf (take end tape) table (withPoints false set) first bytes)
 
 -- "tape above 65,535 bytes"
 abbrev pub longestTape : ℕ
@@ -66,7 +67,7 @@ unfoldable pub interpretation : List ℕ → List ℤ → Settings → ℕ → R
 interpretation tape table set bytes =
     cond (settingsWrong table set) (refused badSettings 0)
     (cond (ltb longestTape (length tape)) (refused tapeTooLong 0)
-    (cond (ltb bytes headerSize) (refused bufferTooShort 0) (readThen tape table set bytes (readOf tape))))
+    (cond (ltb bytes headerSize) (refused bufferTooShort 0) (readThen tape table set bytes (readOf (set .points) tape))))
 
 abbrev pub answerOf : List ℕ → List ℤ → Settings → ℕ → Answer
 answerOf tape table set bytes = interpretation tape table set bytes .answer

@@ -37,7 +37,7 @@ fn run_main(tape: &[u8], table: &[i32], set: Settings, first: usize, buf: &mut [
     answers::finish(ending, run.count, buf)
 }
 
-// Runs a tape as it was read, up to where reading ended.
+// Runs a tape as it was read, up to where reading ended. A run asks for no points: that is done where the tape is read.
 fn run_read(tape: &[u8], table: &[i32], set: Settings, read: Read, buf: &mut [u8]) -> Answer
     requires { ⌜ ReadIn (length (now tape)) read × Right (now table) set × (headerSize ≤ length (now buf)) ⌝ }
     ensures result { λ r. ⌜ r ≡ readThen (now (tape .entry)) (now (table .entry)) set (length (now (buf .entry))) read .answer ⌝ }
@@ -47,7 +47,8 @@ fn run_read(tape: &[u8], table: &[i32], set: Settings, read: Read, buf: &mut [u8
         Read::Alarm(alarm, place) => Answer::Alarm(alarm, place, 0),
         Read::Whole(first, end) => {
             let lines = &tape[..end];
-            run_main(lines, table, set, first, buf)
+            let running = settings::control::with_points(set, false);
+            run_main(lines, table, running, first, buf)
         }
     }
 }
@@ -66,6 +67,6 @@ pub fn interpret(tape: &[u8], table: &[i32], set: Settings, buf: &mut [u8]) -> A
     if buf.len() < moves::HEADER_SIZE {
         return Answer::Alarm(alarms::BUFFER_TOO_SHORT, 0, 0);
     }
-    let read = reading::read::read_tape(tape);
+    let read = reading::read::read_tape(tape, set.points);
     run_read(tape, table, set, read, buf)
 }

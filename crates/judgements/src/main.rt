@@ -69,7 +69,7 @@ fn show(name: &[u8], tape: &[u8]) {
         print(name, b" ALARM ", wide(alarms::TAPE_TOO_LONG), b" at ", 0);
         return;
     }
-    let read = reading::read::read_tape(tape);
+    let read = reading::read::read_tape(tape, false);
     match read {
         Read::Whole(first, end) => print(name, b" read ", first, b" to ", end),
         Read::Alarm(number, place) => print(name, b" ALARM ", wide(number), b" at ", place),

@@ -1,7 +1,7 @@
 -- A reading on its way along the lines: what the two tables hold, and that reading on from here gives what reading from the first line gives.
 -- Assumes nothing.
 use mathlib.Core.Path.{_≡_, refl, sym, ap, _∙_, subst}
-use mathlib.Core.Bool.{Bool, true, false, cond, _||_}
+use mathlib.Core.Bool.{Bool, true, false, cond, _&&_, _||_}
 use mathlib.Core.List.{List}
 use Prim.Native.Nat.{ℕ, zero, suc, _+_, _-_, _≤_, _<_}
 use native.Mathlib.Omega.{arith}
@@ -9,7 +9,7 @@ use lib.Dec.{T, eqb, eqb→eq}
 use lib.ListN.{length, getD, set, take, drop, replicate, length-set, length-replicate}
 use lib.Seq.{getD-set-same, getD-set-other}
 use borrow.Author.Tests.{eq-eqb, ne-eqb, lt-ltb, le-ltb}
-use Rattle.alarms.specs.Numbers.{badLineStart, wordRules}
+use Rattle.alarms.specs.Numbers.{badLineStart, wordRules, missingPoint}
 use Rattle.whole.specs.Among.{among}
 use Rattle.tape.specs.Lines.{lineAt, lines}
 use Rattle.tape.specs.declared.line.Line.{Line}
@@ -22,13 +22,13 @@ use Rattle.reading.specs.declared.read.Read.{Read}
 use Rattle.reading.specs.declared.read.Read.the-variants.{Whole, Alarm}
 use Rattle.reading.specs.Reading.{History, nothingRead, headAlarm, lineAlarm, noted, endsWith, readLines}
 
--- what reading the lines of a tape from `first` on gives
-abbrev pub whole : List ℕ → ℕ → Read
-whole tape first = readLines first (length tape) nothingRead (lines tape first)
+-- what reading the lines of a tape from `first` on gives, with points asked for or not
+abbrev pub whole : Bool → List ℕ → ℕ → Read
+whole points tape first = readLines points first (length tape) nothingRead (lines tape first)
 
-pub record Going (tape : List ℕ) (first : ℕ) (programs : List Bool) (blocks : List ℕ) (mark p : ℕ) : Type 0 where
+pub record Going (points : Bool) (tape : List ℕ) (first : ℕ) (programs : List Bool) (blocks : List ℕ) (mark p : ℕ) : Type 0 where
   pub history : History
-  pub same : whole tape first ≡ readLines first (length tape) history (lines tape p)
+  pub same : whole points tape first ≡ readLines points first (length tape) history (lines tape p)
   pub here : p ≤ length tape
   pub programs-size : length programs ≡ 7000
   pub blocks-size : length blocks ≡ 10000
@@ -40,8 +40,8 @@ pub record Going (tape : List ℕ) (first : ℕ) (programs : List Bool) (blocks 
   pub present : mark ≤ p + 1
 
 -- ---- the beginning
-pub starts : (tape : List ℕ) (first : ℕ) → first ≤ length tape → Going tape first (replicate 7000 false) (replicate 10000 0) (first + 1) first
-starts tape first h = record {
+pub starts : (points : Bool) (tape : List ℕ) (first : ℕ) → first ≤ length tape → Going points tape first (replicate 7000 false) (replicate 10000 0) (first + 1) first
+starts points tape first h = record {
   history = nothingRead;
   same = refl;
   here = h;
@@ -65,48 +65,53 @@ starts tape first h = record {
     zeros (suc k) zero = refl
     zeros (suc k) (suc n) = zeros k n
 
-module _ {tape : List ℕ} {first : ℕ} {programs : List Bool} {blocks : List ℕ} {mark p : ℕ} (g : Going tape first programs blocks mark p) where
+module _ {points : Bool} {tape : List ℕ} {first : ℕ} {programs : List Bool} {blocks : List ℕ} {mark p : ℕ} (g : Going points tape first programs blocks mark p) where
   -- ---- the end of the tape
-  pub at-end : length tape ≤ p → whole tape first ≡ Whole first (length tape)
+  pub at-end : length tape ≤ p → whole points tape first ≡ Whole first (length tape)
   unfolding readLines
-  at-end h = g .same ∙ ap (readLines first (length tape) (g .history)) (lines-end tape p h)
+  at-end h = g .same ∙ ap (readLines points first (length tape) (g .history)) (lines-end tape p h)
 
   -- ---- one line, whose judgement is j
   module _ (inside : p < length tape) (line : Line) (is-line : line ≡ lineAt tape p) (j : Judged) (is-judged : j ≡ judged (take (line .stop - p) (drop p tape))) where
     -- what the line gives, with what is left to read behind it
     by : Line → Judged → Read
     by l k =
-        cond (eqb (lineAlarm (g .history) k) 0)
-        (cond (endsWith (k .head) (k .ends)) (Whole first (l .after)) (readLines first (length tape) (noted (g .history) (k .head)) (lines tape (l .after))))
-        (Alarm (lineAlarm (g .history) k) p)
+        cond (eqb (lineAlarm points (g .history) k) 0)
+        (cond (endsWith (k .head) (k .ends)) (Whole first (l .after)) (readLines points first (length tape) (noted (g .history) (k .head)) (lines tape (l .after))))
+        (Alarm (lineAlarm points (g .history) k) p)
 
-    opened : whole tape first ≡ by line j
+    opened : whole points tape first ≡ by line j
     unfolding readLines by
     opened =
-        g .same ∙ ap (readLines first (length tape) (g .history)) (lines-more tape p inside)
+        g .same ∙ ap (readLines points first (length tape) (g .history)) (lines-more tape p inside)
         ∙ ap (λ (l : Line). by l (judged (take (l .stop - p) (drop p tape)))) (sym is-line) ∙ ap (by line) (sym is-judged)
 
     -- alarm 7 or 5
-    pub refused-itself : (j .alarm ≡ 0 → ⊥) → whole tape first ≡ Alarm (j .alarm) p
+    pub refused-itself : (j .alarm ≡ 0 → ⊥) → whole points tape first ≡ Alarm (j .alarm) p
     unfolding by lineAlarm
     refused-itself n = opened ∙ rw (ne-eqb (j .alarm) 0 n, ne-eqb (j .alarm) 0 n)
 
-    -- alarm 6 or 9, and none
-    module _ (good : j .alarm ≡ 0) (head : Head) (is-head : j .head ≡ head) where
-      line-alarm : lineAlarm (g .history) j ≡ headAlarm (g .history) head (j .broken)
-      unfolding lineAlarm
-      line-alarm = rw (eq-eqb (j .alarm) 0 good) (ap (λ (x : Head). headAlarm (g .history) x (j .broken)) is-head)
+    -- alarm 21
+    pub refused-pointless : j .alarm ≡ 0 → (points && j .pointless) ≡ true → whole points tape first ≡ Alarm missingPoint p
+    unfolding by lineAlarm
+    refused-pointless good e = opened ∙ rw (eq-eqb (j .alarm) 0 good, e)
 
-      pub refused : (n : ℕ) → headAlarm (g .history) head (j .broken) ≡ suc n → whole tape first ≡ Alarm (suc n) p
+    -- alarm 6 or 9, and none
+    module _ (good : j .alarm ≡ 0) (pointed : (points && j .pointless) ≡ false) (head : Head) (is-head : j .head ≡ head) where
+      line-alarm : lineAlarm points (g .history) j ≡ headAlarm (g .history) head (j .broken)
+      unfolding lineAlarm
+      line-alarm = rw (eq-eqb (j .alarm) 0 good, pointed) (ap (λ (x : Head). headAlarm (g .history) x (j .broken)) is-head)
+
+      pub refused : (n : ℕ) → headAlarm (g .history) head (j .broken) ≡ suc n → whole points tape first ≡ Alarm (suc n) p
       unfolding by
       refused n e = opened ∙ rw (line-alarm ∙ e, ne-eqb (suc n) 0 (λ z. omega (arith, z)))
 
-      pub ended : headAlarm (g .history) head (j .broken) ≡ 0 → endsWith head (j .ends) ≡ true → whole tape first ≡ Whole first (line .after)
+      pub ended : headAlarm (g .history) head (j .broken) ≡ 0 → endsWith head (j .ends) ≡ true → whole points tape first ≡ Whole first (line .after)
       unfolding by
       ended e f = opened ∙ rw (line-alarm ∙ e, is-head, f)
 
       pub onward : headAlarm (g .history) head (j .broken) ≡ 0 → endsWith head (j .ends) ≡ false
-          → whole tape first ≡ readLines first (length tape) (noted (g .history) head) (lines tape (line .after))
+          → whole points tape first ≡ readLines points first (length tape) (noted (g .history) head) (lines tape (line .after))
       unfolding by
       onward e f = opened ∙ rw (line-alarm ∙ e, is-head, f)
 
@@ -120,7 +125,7 @@ apart a b e z = subst T (sym (eq-eqb a b z) ∙ e) tt
 eqb-refl : (a : ℕ) → eqb a a ≡ true
 eqb-refl a = eq-eqb a a refl
 
-module _ {tape : List ℕ} {first : ℕ} {programs : List Bool} {blocks : List ℕ} {mark p : ℕ} (g : Going tape first programs blocks mark p) (n : ℕ) (broken : Bool) where
+module _ {points : Bool} {tape : List ℕ} {first : ℕ} {programs : List Bool} {blocks : List ℕ} {mark p : ℕ} (g : Going points tape first programs blocks mark p) (n : ℕ) (broken : Bool) where
   pub program-above : 6999 < n → headAlarm (g .history) (ProgramLine n) broken ≡ badLineStart
   unfolding headAlarm
   program-above h = rw (lt-ltb 6999 n h)
@@ -145,8 +150,8 @@ module _ {tape : List ℕ} {first : ℕ} {programs : List Bool} {blocks : List �
   block-new e = rw (block-first e)
 
 -- the rest is read from `after` on
-module _ {tape : List ℕ} {first : ℕ} {programs : List Bool} {blocks : List ℕ} {mark p : ℕ} (g : Going tape first programs blocks mark p) (after : ℕ) (further : p < after) (within : after ≤ length tape) where
-  pub past-blank : whole tape first ≡ readLines first (length tape) (noted (g .history) Blank) (lines tape after) → Going tape first programs blocks mark after
+module _ {points : Bool} {tape : List ℕ} {first : ℕ} {programs : List Bool} {blocks : List ℕ} {mark p : ℕ} (g : Going points tape first programs blocks mark p) (after : ℕ) (further : p < after) (within : after ≤ length tape) where
+  pub past-blank : whole points tape first ≡ readLines points first (length tape) (noted (g .history) Blank) (lines tape after) → Going points tape first programs blocks mark after
   unfolding noted
   past-blank e = record {
     history = g .history;
@@ -160,8 +165,8 @@ module _ {tape : List ℕ} {first : ℕ} {programs : List Bool} {blocks : List �
     present = omega (arith, g .present);
   }
 
-  pub past-program : (n : ℕ) → n ≤ 6999 → whole tape first ≡ readLines first (length tape) (noted (g .history) (ProgramLine n)) (lines tape after)
-      → Going tape first (set programs n true) blocks (p + 1) after
+  pub past-program : (n : ℕ) → n ≤ 6999 → whole points tape first ≡ readLines points first (length tape) (noted (g .history) (ProgramLine n)) (lines tape after)
+      → Going points tape first (set programs n true) blocks (p + 1) after
   unfolding noted
   past-program n h e = record {
     history = noted (g .history) (ProgramLine n);
@@ -179,8 +184,8 @@ module _ {tape : List ℕ} {first : ℕ} {programs : List Bool} {blocks : List �
       flagged m true q = rw (q, is-same m n q) (getD-set-same programs n true false (omega (arith, g .programs-size)))
       flagged m false q = rw q (getD-set-other programs n m true false (apart m n q) ∙ g .flags m)
 
-  pub past-block : (n : ℕ) → n < 10000 → whole tape first ≡ readLines first (length tape) (noted (g .history) (BlockLine n)) (lines tape after)
-      → Going tape first programs (set blocks n mark) mark after
+  pub past-block : (n : ℕ) → n < 10000 → whole points tape first ≡ readLines points first (length tape) (noted (g .history) (BlockLine n)) (lines tape after)
+      → Going points tape first programs (set blocks n mark) mark after
   unfolding noted
   past-block n h e = record {
     history = noted (g .history) (BlockLine n);

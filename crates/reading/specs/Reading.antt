@@ -1,11 +1,11 @@
--- 01, "Alarms and their order": "then lines from the front, each 7, 5, 6, 8, 9". (02 takes 8 out.) Alarm 6: "line starts with another word, program number repeated or above 6999,
+-- 01, "Alarms and their order": "then lines from the front, each 7, 5, 6, 8, 9". (02 takes 8 out, and puts 21 "after 5 and before 6 on its line".) Alarm 6: "line starts with another word, program number repeated or above 6999,
 -- block number repeated in its program". "Reading ends after a line whose last word is M30 (001)."
-use mathlib.Core.Bool.{Bool, false, cond, _||_}
+use mathlib.Core.Bool.{Bool, false, cond, _&&_, _||_}
 use mathlib.Core.List.{List, [], _∷_}
 use Prim.Native.Nat.{ℕ}
 use lib.Dec.{ltb, eqb}
 use lib.ListN.{length}
-use Rattle.alarms.specs.Numbers.{noProgram, badLineStart, wordRules}
+use Rattle.alarms.specs.Numbers.{noProgram, badLineStart, wordRules, missingPoint}
 use Rattle.settings.specs.Wrong.{highestProgram}
 use Rattle.whole.specs.Among.{among}
 use Rattle.tape.specs.Lines.{seekFrom, opensTape, Text, lines}
@@ -35,9 +35,9 @@ headAlarm h (Other lacks) broken = badLineStart
 headAlarm h (ProgramLine n) broken = cond (ltb highestProgram n || among n (h .programs)) badLineStart (cond broken wordRules 0)
 headAlarm h (BlockLine n) broken = cond (among n (h .blocks)) badLineStart (cond broken wordRules 0)
 
--- a line's alarm: 7 or 5, which it shows by itself, else 6 or 9, else 0
-unfoldable pub lineAlarm : History → Judged → ℕ
-lineAlarm h j = cond (eqb (j .alarm) 0) (headAlarm h (j .head) (j .broken)) (j .alarm)
+-- a line's alarm: 7 or 5, which it shows by itself, else 21 where points are asked for, else 6 or 9, else 0. 21 is asked of every line, of one that begins with another word too
+unfoldable pub lineAlarm : Bool → History → Judged → ℕ
+lineAlarm points h j = cond (eqb (j .alarm) 0) (cond (points && j .pointless) missingPoint (headAlarm h (j .head) (j .broken))) (j .alarm)
 
 -- what was read, with one line more
 unfoldable pub noted : History → Head → History
@@ -57,15 +57,15 @@ endsWith (ProgramLine n) ends = false
 abbrev pub afterLine : ℕ → ℕ → Bool → Text → Read → Read
 afterLine first alarm ends t rest = cond (eqb alarm 0) (cond ends (Whole first (t .after)) rest) (Alarm alarm (t .place))
 
--- the lines one after the other; the tape ends at `end`
-unfoldable pub readLines : ℕ → ℕ → History → List Text → Read
-readLines first end h [] = Whole first end
-readLines first end h (t ∷ ts) =
+-- the lines one after the other, with points asked for or not; the tape ends at `end`
+unfoldable pub readLines : Bool → ℕ → ℕ → History → List Text → Read
+readLines points first end h [] = Whole first end
+readLines points first end h (t ∷ ts) =
     let j = judged (t .bytes) in
-    afterLine first (lineAlarm h j) (endsWith (j .head) (j .ends)) t (readLines first end (noted h (j .head)) ts)
+    afterLine first (lineAlarm points h j) (endsWith (j .head) (j .ends)) t (readLines points first end (noted h (j .head)) ts)
 
 -- a tape: alarm 4, "no `%` or `O`", or its lines from the first
-unfoldable pub readOf : List ℕ → Read
-readOf s =
+unfoldable pub readOf : Bool → List ℕ → Read
+readOf points s =
     let first = seekFrom opensTape s 0 in
-    cond (ltb first (length s)) (readLines first (length s) nothingRead (lines s first)) (Alarm noProgram 0)
+    cond (ltb first (length s)) (readLines points first (length s) nothingRead (lines s first)) (Alarm noProgram 0)

@@ -31,9 +31,9 @@ fn wide(n: u32) -> usize
 }
 
 // The lines from `first` on.
-fn read_lines(tape: &[u8], first: usize) -> Read
+fn read_lines(tape: &[u8], first: usize, points: bool) -> Read
     requires { ⌜ (first < length (now tape)) × (length (now tape) ≤ longestTape) ⌝ }
-    ensures { λ r. ⌜ r ≡ readLines first (length (now (tape .entry))) nothingRead (lines (now (tape .entry)) first) ⌝ }
+    ensures { λ r. ⌜ r ≡ readLines points first (length (now (tape .entry))) nothingRead (lines (now (tape .entry)) first) ⌝ }
 {
     let mut programs = [false; 7000];
     let mut blocks = [0u16; 10000];
@@ -50,6 +50,9 @@ fn read_lines(tape: &[u8], first: usize) -> Read
         let alarm = judged.alarm;
         if alarm != 0 {
             return Read::Alarm(alarm, p);
+        }
+        if points & judged.pointless {
+            return Read::Alarm(alarms::MISSING_POINT, p);
         }
         let head = judged.head;
         match head {
@@ -92,14 +95,14 @@ fn read_lines(tape: &[u8], first: usize) -> Read
     }
 }
 
-// A whole tape, whatever its bytes are. That it is not too long was judged before (alarm 2).
-pub fn read_tape(tape: &[u8]) -> Read
+// A whole tape, whatever its bytes are. That it is not too long was judged before (alarm 2). `points`: whether the numbers of X Z U W must have their points.
+pub fn read_tape(tape: &[u8], points: bool) -> Read
     requires { ⌜ length (now tape) ≤ longestTape ⌝ }
-    ensures { λ r. ⌜ r ≡ readOf (now (tape .entry)) ⌝ }
+    ensures { λ r. ⌜ r ≡ readOf points (now (tape .entry)) ⌝ }
 {
     let first = tape::line::first_line(tape);
     if first >= tape.len() {
         return Read::Alarm(alarms::NO_PROGRAM, 0);
     }
-    read_lines(tape, first)
+    read_lines(tape, first, points)
 }

@@ -1,5 +1,5 @@
-// What a line shows by itself: alarms 7 and 5, how it begins, and whether it breaks a word rule (alarm 9).
-// (01: "then lines from the front, each 7, 5, 6, 8, 9". 02 takes 8 out.)
+// What a line shows by itself: alarms 7 and 5, how it begins, whether a number of it lacks its point (alarm 21), and whether it breaks a word rule (alarm 9).
+// (01: "then lines from the front, each 7, 5, 6, 8, 9". 02 takes 8 out, and puts 21 behind 5.)
 use block::words::Block;
 use block::words::Head;
 use block::words::LineStart;

@@ -11,6 +11,7 @@ use borrow.Author.Tests.{ltb-false, eqb-true, not-false}
 use Rattle.whole.specs.Position.{inTable}
 use Rattle.settings.specs.declared.limits.Span.{Span}
 use Rattle.settings.specs.declared.control.Settings.{Settings}
+use Rattle.settings.specs.Points.{withPoints}
 use Rattle.settings.specs.Known.{Table, SpanIn, Right}
 use Rattle.settings.specs.Wrong.{tableSize, greatestRetract, greatestEmptyCuts, someOut, tableWrong, spanWrong, settingsWrong}
 
@@ -49,3 +50,11 @@ right table set e =
     let x = span-right (set .limits .x) (set .x) (s .0) in
     let z = span-right (set .limits .z) (set .z) (s .1) in
     record { offsets = table-right table (g .0); range = record { retract = ltb-false greatestRetract (set .retract) (g .1); x = x .0; z = z .0; emptyCuts = ltb-false greatestEmptyCuts (set .«empty_cuts») (c .1) }; starts = record { x = x .1; z = z .1 } }
+
+-- whether points are asked for is no matter of it
+pub right-points : (points : Bool) {table : List ℤ} {set : Settings} → Right table set → Right table (withPoints points set)
+right-points points h = record {
+  offsets = h .offsets;
+  range = record { retract = h .range .retract; x = h .range .x; z = h .range .z; emptyCuts = h .range .emptyCuts };
+  starts = record { x = h .starts .x; z = h .starts .z };
+}

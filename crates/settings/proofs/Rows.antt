@@ -7,7 +7,7 @@ use lib.Dec.{eqb}
 use lib.IntN.{ℤ}
 use lib.ListN.{length}
 use borrow.Author.Tests.{eqb-true, eq-eqb, ne-eqb}
-use Rattle.settings.specs.Row.{mainAt, lowestSubroutineAt, retractAt, emptyCutsAt, settingsCount, isBelow, unfit}
+use Rattle.settings.specs.Row.{mainAt, lowestSubroutineAt, retractAt, emptyCutsAt, settingsCount, isBelow, pointsUnfit, unfit}
 
 first-false : (a b : Bool) → (a || b) ≡ false → a ≡ false
 first-false true b e = e
@@ -25,7 +25,7 @@ pub other-length : (numbers : List ℤ) → (length numbers ≡ settingsCount �
 unfolding unfit
 other-length numbers h = rw (ne-eqb (length numbers) settingsCount h) refl
 
-pub are-there : (numbers : List ℤ) → length numbers ≡ settingsCount → {x y z e : Bool} → x ≡ isBelow numbers mainAt → y ≡ isBelow numbers lowestSubroutineAt → z ≡ isBelow numbers retractAt → e ≡ isBelow numbers emptyCutsAt
-    → (((x || y) || z) || e) ≡ unfit numbers
+pub are-there : (numbers : List ℤ) → length numbers ≡ settingsCount → {x y z e p : Bool} → x ≡ isBelow numbers mainAt → y ≡ isBelow numbers lowestSubroutineAt → z ≡ isBelow numbers retractAt → e ≡ isBelow numbers emptyCutsAt → p ≡ pointsUnfit numbers
+    → ((((x || y) || z) || e) || p) ≡ unfit numbers
 unfolding unfit
-are-there numbers h x y z e = rw (eq-eqb (length numbers) settingsCount h) (λ i. ((x i || y i) || z i) || e i)
+are-there numbers h x y z e p = rw (eq-eqb (length numbers) settingsCount h) (λ i. (((x i || y i) || z i) || e i) || p i)

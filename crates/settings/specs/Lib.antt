@@ -3,4 +3,5 @@ pub mod Limits
 pub mod Wrong
 pub mod Row
 pub mod Listmoves
+pub mod Points
 pub mod Known

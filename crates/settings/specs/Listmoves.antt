@@ -1,4 +1,4 @@
--- What 01's program `listmoves` runs with: "with main 1, lowest subroutine 80, retract 500, start X 60000 Z 50000, limits -200000 to 200000, table zero". 02: "factory 1" empty cut.
+-- What 01's program `listmoves` runs with: "with main 1, lowest subroutine 80, retract 500, start X 60000 Z 50000, limits -200000 to 200000, table zero". 02: "factory 1" empty cut; points are not asked for.
 use mathlib.Core.List.{List, [], _∷_}
 use lib.IntN.{ℤ, pos}
 use lib.ListN.{replicate}
@@ -7,7 +7,7 @@ use Rattle.settings.specs.declared.control.Settings.{Settings}
 use Rattle.settings.specs.Row.{settingsOf}
 use Rattle.settings.specs.Wrong.{tableSize}
 
--- in the order of the row: main, lowest subroutine, retract, start X and Z, the limits of X, the limits of Z, the empty cuts
+-- in the order of the row: main, lowest subroutine, retract, start X and Z, the limits of X, the limits of Z, the empty cuts, the points
 abbrev pub listmovesRow : List ℤ
 listmovesRow =
     pos 1
@@ -20,6 +20,7 @@ listmovesRow =
     ∷ minus 200_000
     ∷ pos 200_000
     ∷ pos 1
+    ∷ pos 0
     ∷ []
 
 abbrev pub listmoves : Settings

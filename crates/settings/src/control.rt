@@ -5,6 +5,7 @@ use crate::limits::Span;
 use whole::position::Position;
 ghost use mathlib.Core.Path.{_≡_};
 ghost use Rattle.settings.specs.Wrong.{tableWrong, spanWrong, numbersWrong, settingsWrong};
+ghost use Rattle.settings.specs.Points.{withPoints};
 
 // How many numbers the offset table has.
 pub const TABLE_SIZE: usize = 208;
@@ -20,7 +21,7 @@ pub const HIGHEST_PROGRAM: u32 = 6_999;
 pub const HIGHEST_SUBROUTINE: u32 = 255;
 
 // (01: "Settings: main program number; lowest subroutine number ..; retract ..; start position; soft limits X and Z, lowest and highest"; 02: "Empty cuts repeat the last pass D4
-// times, else as a new setting says".)
+// times, else as a new setting says"; "a setting turns missing points into an alarm for X Z U W".)
 pub struct Settings {
     pub main: u32,
     pub lowest_subroutine: u32,
@@ -29,6 +30,8 @@ pub struct Settings {
     pub z: i32,
     pub limits: Limits,
     pub empty_cuts: u32,
+    // whether the numbers of X Z U W must have a point (alarm 21)
+    pub points: bool,
 }
 
 // Whether the table has not its size, or a number out of range.
@@ -76,4 +79,13 @@ pub fn settings_wrong(table: &[i32], set: Settings) -> bool
         | (GREATEST_EMPTY_CUTS < set.empty_cuts);
     let spans = span_wrong(x, set.x) | span_wrong(z, set.z);
     given | (spans | numbers_wrong(set.main, set.lowest_subroutine))
+}
+
+// The settings with points asked for or not, and all else as it is.
+pub fn with_points(set: Settings, points: bool) -> Settings
+    ensures { λ r. ⌜ r ≡ withPoints points set ⌝ }
+{
+    let mut set = set;
+    set.points = points;
+    set
 }

@@ -26,20 +26,24 @@ pub const Z_HIGHEST: usize = 8;
 
 pub const EMPTY_CUTS: usize = 9;
 
-// How many settings there are.
-pub const COUNT: usize = 10;
+pub const POINTS: usize = 10;
 
-// Whether they are not as many, or main, lowest subroutine, retract or the empty cuts are below 0. What else alarm 1 asks of them is judged of the settings (`control::settings_wrong`).
+// How many settings there are.
+pub const COUNT: usize = 11;
+
+// Whether they are not as many, or main, lowest subroutine, retract or the empty cuts are below 0, or the points neither 0 nor 1. What else alarm 1 asks of them is judged of the settings (`control::settings_wrong`).
 pub fn unfit(numbers: &[i32]) -> bool
     ensures { λ r. ⌜ r ≡ unfit (now (numbers .entry)) ⌝ }
 {
     if numbers.len() != COUNT {
         return true;
     }
-    (numbers[MAIN] < 0)
+    let below = (numbers[MAIN] < 0)
         | (numbers[LOWEST_SUBROUTINE] < 0)
         | (numbers[RETRACT] < 0)
-        | (numbers[EMPTY_CUTS] < 0)
+        | (numbers[EMPTY_CUTS] < 0);
+    let points = numbers[POINTS];
+    below | ((points < 0) | (1 < points))
 }
 
 pub fn settings_of(numbers: &[i32]) -> Settings
@@ -62,5 +66,6 @@ pub fn settings_of(numbers: &[i32]) -> Settings
         z: numbers[START_Z],
         limits: Limits { x, z },
         empty_cuts: whole::signed::magnitude(numbers[EMPTY_CUTS]),
+        points: 0 < numbers[POINTS],
     }
 }

@@ -1,5 +1,5 @@
 // What 01's program `listmoves` runs with: "with main 1, lowest subroutine 80, retract 500, start X 60000 Z 50000, limits -200000 to 200000, table zero"; and with the factory's one empty cut
-// (02: "factory 1").
+// (02: "factory 1") and no points asked for.
 // The stored tapes and the trials run with it too.
 use crate::control::Settings;
 use crate::control::TABLE_SIZE;
@@ -22,6 +22,7 @@ pub fn row_of_listmoves() -> [i32; COUNT]
         -200_000,
         200_000,
         1,
+        0,
     ]
 }
 

@@ -120,7 +120,7 @@ goes-of t r s v (Call p times) h e l = (l, omega (arith, h))
 goes-of t r s v (Jump p) h e l = (l, omega (arith, h))
 goes-of t r s v Return h e l = tt
 goes-of t r s v End h e l = tt
-goes-of t r s v (Stop alarm place) h e l = absurd (alarm-above alarm h e)
+goes-of t r s v (Stop alarm place) h e l = absurd (alarm-above false alarm h e)
 
 module _ (t : Task) (b : List ℕ) (f : Frame) (r : Run) (n : Needs t (length b) f r) where
   abbrev w : Onward

@@ -1,5 +1,5 @@
 // What a case is run with: the numbers of the table and the settings. They stand in one array, the table's 208 first and then the settings, as 01's
-// `listmoves` has them until a line names another: `=retract 300`, `=empty 2`, `=offset 3 -1500` for number 3 of the table, `=bytes 24` for the buffer's size, `=numbers 207` for a table cut short; the first two letters of a word tell it.
+// `listmoves` has them until a line names another: `=retract 300`, `=empty 2`, `=points 1`, `=offset 3 -1500` for number 3 of the table, `=bytes 24` for the buffer's size, `=numbers 207` for a table cut short; the first two letters of a word tell it.
 use numbers::Number;
 use numbers::NumberForm;
 ghost use mathlib.Core.Path.{_≡_};
@@ -35,6 +35,8 @@ pub const Z_LOW: usize = TABLE + settings::row::Z_LOWEST;
 pub const Z_HIGH: usize = TABLE + settings::row::Z_HIGHEST;
 
 pub const EMPTY: usize = TABLE + settings::row::EMPTY_CUTS;
+
+pub const POINTS: usize = TABLE + settings::row::POINTS;
 
 const NUMBERS: usize = TABLE + settings::row::COUNT;
 
@@ -106,6 +108,7 @@ fn place_of(first: u8, second: u8) -> usize {
         b'x' => axis_place(second, X, X_LOW, X_HIGH),
         b'z' => axis_place(second, Z, Z_LOW, Z_HIGH),
         b'e' => EMPTY,
+        b'p' => POINTS,
         b'n' => NUMBERS,
         b'b' => BYTES,
         b'o' => OFFSET,

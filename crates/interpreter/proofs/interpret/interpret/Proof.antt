@@ -35,7 +35,7 @@ run-read-requires : tie.Need-run-read-requires
 run-read-requires c κs =
     let e = c .before .before in
     let a = c .before .before .before .before .before .before .before .before .args in (
-      subst (ReadIn (length (now (a .tape)))) (sym (c .before .read-tape .ensures)) (read-in (now (a .tape))),
+      subst (ReadIn (length (now (a .tape)))) (sym (c .before .read-tape .ensures)) (read-in (a .set .points) (now (a .tape))),
       right (now (a .table)) (a .set) (fine (e .before .before)),
       e .if3 .left,
     )
