@@ -64,7 +64,7 @@ module _ (t : Task) (g : Frame) (r : Run) where
   unfolding doneAt
   done-alarm e = rw (ne-eqb (alarmAt t g r) 0 e) refl
 
-  records-free : alarmAt t g r ≡ 0 → recordsAt t g r ≡ doneRecords (t .table) (t .settings) (r .state) (blockOn (t .tape) (g .at))
+  pub records-free : alarmAt t g r ≡ 0 → recordsAt t g r ≡ doneRecords (t .table) (t .settings) (r .state) (blockOn (t .tape) (g .at))
   unfolding recordsAt
   records-free e = rw (eq-eqb (alarmAt t g r) 0 e) refl
 

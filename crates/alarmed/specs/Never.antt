@@ -1,0 +1,22 @@
+-- ANSWERS THAT CANNOT COME. The definitions of a run have clauses that no run reaches: a fuel that is used up, a call where none is left, a main program that returns.
+use mathlib.Core.Path.{_≡_}
+use Prim.Native.Nat.{ℕ, _<_}
+use Rattle.ahead.specs.Ahead.{mostCalls}
+use Rattle.ahead.specs.declared.Frame.{Frame}
+use Rattle.ahead.specs.declared.Onward.the-variants.{Call}
+use Rattle.steps.specs.Steps.{Task, onwardOf}
+use Rattle.steps.specs.declared.step.Run.{Run}
+use Rattle.runners.specs.Runs.{blocks, called, programRun}
+use Rattle.runners.specs.declared.run.Ending.the-variants.{Returned}
+
+-- a program with ten calls left never comes back: M17 in the main program is alarm 14
+abbrev pub NeverReturns : Type 0
+NeverReturns = (t : Task) (program : ℕ) (r : Run) → programRun t program mostCalls r .outcome .ending ≡ Returned → ⊥
+
+-- with no call left no call is asked for: it is alarm 12
+abbrev pub NeverCalls : Type 0
+NeverCalls = (t : Task) (f : Frame) (r : Run) → f .«calls_left» ≡ 0 → (program times : ℕ) → onwardOf t f r ≡ Call program times → ⊥
+
+-- the fuel is never used up: with more than the blocks that may still begin, any two come to the same run
+abbrev pub FuelLasts : Type 0
+FuelLasts = (t : Task) (calls n m : ℕ) (f : Frame) (r : Run) → r .«blocks_left» < n → r .«blocks_left» < m → blocks (called t calls) t n f r ≡ blocks (called t calls) t m f r
