@@ -1,4 +1,4 @@
--- Laws of the door: which of its two ways an input takes, demand 1 of every input, and that place and count of every answer have 16 bits.
+-- Laws of the door: which of its two ways an input takes, the demands of every input, and that place and count of every answer have 16 bits.
 -- Assumes nothing.
 use mathlib.Core.Path.{_≡_, refl, sym, subst}
 use mathlib.Core.Bool.{Bool, true, false}
@@ -14,10 +14,12 @@ use Rattle.interpreter.specs.Answers.{Result, refused, interpretation, answerOf
 use Rattle.answers.specs.declared.Answer.{Answer}
 use Rattle.answers.specs.declared.Answer.the-variants.{Alarm}
 use Rattle.interpreter.proofs.Whole.{none-begun}
-use Rattle.demands.specs.Demands.{Owed}
-use Rattle.demands.proofs.Holding.{none-owed, demand-one}
+use Rattle.demands.specs.Demands.{Owed, OwedList, Each, EachFrom, EveryCycle, CutIn, Threads, ThreadsIn}
+use Rattle.demands.proofs.Holding.{none-owed, demand-one, demand-two}
+use Rattle.demands.proofs.Demands.{demand-three, thread-promise, demand-three-in-buffer, thread-promise-in-buffer}
+use Rattle.alarmed.proofs.Alone.{alarms-stand}
 use Rattle.settings.specs.Row.{unfit, settingsOf}
-use Rattle.board.specs.Door.{atDoor, answerAt, bufferAt, Packed, DemandOneAtDoor, Fits}
+use Rattle.board.specs.Door.{atDoor, answerAt, bufferAt, Packed, DemandOneAtDoor, DemandTwoAtDoor, inputAt, AlarmsStandAtDoor, taskAt, DemandThreeAtDoor, DemandThreeInBufferAtDoor, ThreadPromiseAtDoor, ThreadPromiseInBufferAtDoor, Fits}
 
 -- ---- the numbers of an answer, as they stand in one
 pub packs : (a : Answer) (r : ℕ) → Fits a → numberOf a < 256 → r ≡ countOf a + 65_536 * (placeOf a + 65_536 * numberOf a) → Packed a r
@@ -59,12 +61,43 @@ module _ (tape : List ℕ) (table numbers : List ℤ) (b : List ℕ) where
     pub ran-here : {a : Answer} → a ≡ answerOf tape table set (length b) → {r : ℕ} {e : List ℕ} → Packed a r → e ≡ bufferOf tape table set b → Opened r e
     ran-here k {r} p l = opened-by is-run (subst (λ (x : Answer). Packed x r) k p) l
 
-  owed-by : (bad : Bool) → unfit numbers ≡ bad → DemandOneAtDoor tape table numbers b
-  owed-by true h = subst (λ (x : Result). Owed (settingsOf numbers .points) (length tape) x b) (sym (is-refused h)) (none-owed (settingsOf numbers .points) (length tape) b badSettings 0 refl (omega arith) (omega arith))
-  owed-by false h = subst (λ (x : Result). Owed (settingsOf numbers .points) (length tape) x b) (sym (is-run h refl)) (demand-one tape table (settingsOf numbers) b)
+  -- what holds of alarm 1 and of every answer of the interpreter holds at the door
+  by-fit : (P : Result → Type 0) → P (refused badSettings 0) → P (interpretation tape table (settingsOf numbers) (length b)) → (bad : Bool) → unfit numbers ≡ bad
+      → P (atDoor tape table numbers (length b))
+  by-fit P one all true h = subst P (sym (is-refused h)) one
+  by-fit P one all false h = subst P (sym (is-run h refl)) all
+
+  abbrev at-door : (P : Result → Type 0) → P (refused badSettings 0) → P (interpretation tape table (settingsOf numbers) (length b)) → P (atDoor tape table numbers (length b))
+  at-door P one all = by-fit P one all (unfit numbers) refl
 
   pub demand-one-at-door : DemandOneAtDoor tape table numbers b
-  demand-one-at-door = owed-by (unfit numbers) refl
+  demand-one-at-door =
+      at-door (λ x. Owed (settingsOf numbers .points) (length tape) x b) (none-owed (settingsOf numbers .points) (length tape) b badSettings 0 refl (omega arith) (omega arith)) (demand-one tape table (settingsOf numbers) b)
+
+  pub demand-two-at-door : DemandTwoAtDoor tape table numbers b
+  demand-two-at-door = at-door (λ x. OwedList x b) (λ e. absurd (omega (arith, e))) (demand-two tape table (settingsOf numbers) b)
+
+  pub alarms-stand-at-door : AlarmsStandAtDoor tape table numbers (length b)
+  alarms-stand-at-door = record { refuses = is-refused; takes = λ h. is-run h refl; stands = alarms-stand (inputAt tape table numbers (length b)) }
+
+  -- of the steps; an alarm 1 has none
+  pub demand-three-at-door : DemandThreeAtDoor tape table numbers (length b)
+  unfolding Each
+  demand-three-at-door = at-door (λ x. EveryCycle (taskAt tape table numbers (length b)) (x .steps)) tt (demand-three tape table (settingsOf numbers) (length b))
+
+  pub thread-promise-at-door : ThreadPromiseAtDoor tape table numbers (length b)
+  unfolding Each
+  thread-promise-at-door = at-door (λ x. Each (Threads (taskAt tape table numbers (length b))) (x .steps)) tt (thread-promise tape table (settingsOf numbers) (length b))
+
+  pub demand-three-in-buffer-at-door : DemandThreeInBufferAtDoor tape table numbers b
+  unfolding EachFrom
+  demand-three-in-buffer-at-door =
+      at-door (λ x. EachFrom (CutIn (taskAt tape table numbers (length b)) (laidBy x b)) 0 (x .steps)) tt (demand-three-in-buffer tape table (settingsOf numbers) b)
+
+  pub thread-promise-in-buffer-at-door : ThreadPromiseInBufferAtDoor tape table numbers b
+  unfolding EachFrom
+  thread-promise-in-buffer-at-door =
+      at-door (λ x. EachFrom (ThreadsIn (taskAt tape table numbers (length b)) (laidBy x b)) 0 (x .steps)) tt (thread-promise-in-buffer tape table (settingsOf numbers) b)
 
   pub answer-fits : (set : Settings) {a : Answer} → a ≡ answerOf tape table set (length b) → Fits a
   answer-fits set {a} k =

@@ -1,6 +1,6 @@
 -- THE DOOR: tape, table, settings as a row of numbers (settings/specs/Row.antt), and the buffer; an answer as one number.
 use mathlib.Core.Path.{_≡_}
-use mathlib.Core.Bool.{cond}
+use mathlib.Core.Bool.{true, false, cond}
 use mathlib.Core.List.{List}
 use Prim.Native.Nat.{ℕ, _/_, _%_, _<_}
 use lib.IntN.{ℤ}
@@ -10,7 +10,10 @@ use Rattle.settings.specs.Row.{unfit, settingsOf}
 use Rattle.answers.specs.Answers.{numberOf, placeOf, countOf}
 use Rattle.interpreter.specs.Answers.{Result, refused, interpretation, laidBy}
 use Rattle.answers.specs.declared.Answer.{Answer}
-use Rattle.demands.specs.Demands.{Owed}
+use Rattle.steps.specs.Steps.{Task}
+use Rattle.demands.specs.Demands.{Owed, OwedList, Each, EachFrom, EveryCycle, CutIn, Threads, ThreadsIn, task}
+use Rattle.alarmed.specs.Tests.{Input}
+use Rattle.alarmed.specs.Alarmed.{answered, AlarmsStand}
 
 -- tape, table, the settings as they came, and the length of the buffer
 unfoldable pub atDoor : List ℕ → List ℤ → List ℤ → ℕ → Result
@@ -29,9 +32,39 @@ pub record Packed (a : Answer) (r : ℕ) : Type 0 where
   pub alarm : r / 4_294_967_296 ≡ numberOf a
   pub rest : r < 1_099_511_627_776
 
--- DEMAND 1 at the door, of every tape, table, row of settings and buffer
+-- ---- THE DEMANDS at the door, of every tape, table, row of settings and buffer
 abbrev pub DemandOneAtDoor : List ℕ → List ℤ → List ℤ → List ℕ → Type 0
 DemandOneAtDoor tape table numbers b = Owed (settingsOf numbers .points) (length tape) (atDoor tape table numbers (length b)) b
+
+abbrev pub DemandTwoAtDoor : List ℕ → List ℤ → List ℤ → List ℕ → Type 0
+DemandTwoAtDoor tape table numbers b = OwedList (atDoor tape table numbers (length b)) b
+
+-- where alarms come. The door's own alarm 1 goes before all else; behind it the answer is that of the interpreter, with the settings that the row holds
+abbrev pub inputAt : List ℕ → List ℤ → List ℤ → ℕ → Input
+inputAt tape table numbers bytes = record { tape = tape; table = table; settings = settingsOf numbers; bytes = bytes }
+
+pub record AlarmsStandAtDoor (tape : List ℕ) (table numbers : List ℤ) (bytes : ℕ) : Type 0 where
+  pub refuses : unfit numbers ≡ true → atDoor tape table numbers bytes ≡ refused badSettings 0
+  pub takes : unfit numbers ≡ false → atDoor tape table numbers bytes ≡ answered (inputAt tape table numbers bytes)
+  pub stands : AlarmsStand (inputAt tape table numbers bytes)
+
+-- demand 3 and the promise of threads: of the records of the steps, and of the bytes of the buffer after the run
+abbrev pub taskAt : List ℕ → List ℤ → List ℤ → ℕ → Task
+taskAt tape table numbers bytes = task tape table (settingsOf numbers) bytes
+
+abbrev pub DemandThreeAtDoor : List ℕ → List ℤ → List ℤ → ℕ → Type 0
+DemandThreeAtDoor tape table numbers bytes = EveryCycle (taskAt tape table numbers bytes) (atDoor tape table numbers bytes .steps)
+
+abbrev pub DemandThreeInBufferAtDoor : List ℕ → List ℤ → List ℤ → List ℕ → Type 0
+DemandThreeInBufferAtDoor tape table numbers b =
+    EachFrom (CutIn (taskAt tape table numbers (length b)) (bufferAt tape table numbers b)) 0 (atDoor tape table numbers (length b) .steps)
+
+abbrev pub ThreadPromiseAtDoor : List ℕ → List ℤ → List ℤ → ℕ → Type 0
+ThreadPromiseAtDoor tape table numbers bytes = Each (Threads (taskAt tape table numbers bytes)) (atDoor tape table numbers bytes .steps)
+
+abbrev pub ThreadPromiseInBufferAtDoor : List ℕ → List ℤ → List ℤ → List ℕ → Type 0
+ThreadPromiseInBufferAtDoor tape table numbers b =
+    EachFrom (ThreadsIn (taskAt tape table numbers (length b)) (bufferAt tape table numbers b)) 0 (atDoor tape table numbers (length b) .steps)
 
 -- ---- what is known of an answer before it is packed
 -- an answer whose place and count have 16 bits

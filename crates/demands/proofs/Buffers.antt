@@ -29,7 +29,7 @@ use Rattle.answers.specs.Answers.{answerBy, startOf, headed}
 use Rattle.runners.specs.Runs.{recordsOf, programRun}
 use Rattle.answers.specs.declared.Answer.{Answer}
 use Rattle.answers.specs.declared.Answer.the-variants.{Complete, Alarm}
-use Rattle.demands.specs.Demands.{Each, EachFrom, StandsIn, task, Front}
+use Rattle.demands.specs.Demands.{Each, EachFrom, StandsIn, task}
 use Rattle.demands.specs.Steps.{Done, Linked}
 use Rattle.demands.proofs.Cycles.{every-step}
 use Rattle.block.specs.declared.words.Block.{Block}
@@ -116,13 +116,17 @@ read-from P t h tail e v (st ∷ sts) r s lh is g f c l x z =
     )
 
 -- ---- the buffer: a header or what was there, the records, and the rest as it came
+abbrev pub FrontBy : Answer → List ℕ → List ℕ → Type 0
+FrontBy (Complete count) b e = take headerSize e ≡ headerBytes count
+FrontBy (Alarm alarm place count) b e = take headerSize e ≡ take headerSize b
+
 pub record Form (a : Answer) (b e : List ℕ) (rs : List Record) : Type 0 where
   pub before : List ℕ
   pub behind : List ℕ
   pub size : length before ≡ headerSize
   pub is : e ≡ before ++ (rowBytes rs ++ behind)
   pub rest : behind ≡ drop (recordStart (length rs)) b
-  pub front : Front a b e
+  pub front : FrontBy a b e
 
 module _ (b : List ℕ) (rs : List Record) (h : headerSize ≤ length b) where
   abbrev after : List ℕ

@@ -8,10 +8,11 @@ use native.Mathlib.Omega.{arith}
 use lib.IntN.{ℤ}
 use lib.ListN.{length, take, drop, length-append, length-take, length-drop}
 use lib.Seq.{take-at, drop-at}
+use borrow.Author.Tests.{ne-eqb}
 use Rattle.whole.specs.Bytes.{laid}
 use Rattle.whole.proofs.Laying.{laid-nil}
 use Rattle.alarms.specs.Given.{IsAlarm}
-use Rattle.alarms.proofs.Above.{not-eight, given-more}
+use Rattle.alarms.proofs.Above.{alarm-above, not-eight, given-more}
 use Rattle.moves.specs.Form.{headerSize, recordSize, recordStart, recordLimit, roomOf, headerBytes, rowBytes, listBytes, AllFitting, LawfulList}
 use Rattle.moves.specs.Reading.{recordsIn, countIn, listIn, rowIn}
 use Rattle.moves.specs.declared.record.Record.{Record}
@@ -36,7 +37,7 @@ use Rattle.runners.specs.declared.run.Ending.{Ending}
 use Rattle.runners.specs.declared.run.Ending.the-variants.{Returned, Ended, Stopped}
 use Rattle.demands.specs.Demands.{Front, HoldsAfter, Named, Told, Owed, IsList, DemandOne, DemandTwo}
 use Rattle.demands.specs.Steps.{Linked}
-use Rattle.demands.proofs.Buffers.{AllFit, chain-fits, Form, form}
+use Rattle.demands.proofs.Buffers.{AllFit, chain-fits, FrontBy, Form, form}
 use Rattle.demands.proofs.Cycles.{counted}
 use Rattle.demands.proofs.Demands.{count-by}
 use Rattle.demands.proofs.Fits.{fitting-append}
@@ -59,6 +60,24 @@ chain-room t (st ∷ sts) r s h l =
     let few = done-few (t .table) (t .settings) (r .state) b (t .room - r .count) k in
     chain-room t sts (runAfter t (st .place) r) s (omega (arith, h, few)) (l .1)
 
+-- ---- an answer by its number
+no-list : (alarm place n count : ℕ) → Alarm alarm place n ≡ Complete count → ⊥
+no-list alarm place n count e = subst alarmed e tt
+  where
+    alarmed : Answer → Type 0
+    alarmed (Alarm a p m) = Unit {0}
+    alarmed (Complete m) = ⊥
+
+alarm-named : (points : Bool) (alarm place n : ℕ) → IsAlarm points alarm → Named points (Alarm alarm place n)
+alarm-named points alarm place n h = record { complete = λ z. absurd (alarm-above points alarm h z); alarm = λ _. h }
+
+list-named : (points : Bool) (n : ℕ) → Named points (Complete n)
+list-named points n = record { complete = λ _. refl; alarm = λ some. absurd (some refl) }
+
+front-by : (points : Bool) (a : Answer) (b e : List ℕ) → Named points a → FrontBy a b e → Front a b e
+front-by points (Complete n) b e h f = f
+front-by points (Alarm alarm place n) b e h f = rw (ne-eqb alarm 0 (λ z. no-list alarm place n n (h .complete z))) f
+
 -- ---- what a buffer of that form holds
 module _ (a : Answer) (b e : List ℕ) (rs : List Record) (f : Form a b e rs) (fits : AllFitting rs) where
   rows : length (f .before ++ rowBytes rs) ≡ recordStart (length rs)
@@ -68,15 +87,15 @@ module _ (a : Answer) (b e : List ℕ) (rs : List Record) (f : Form a b e rs) (f
   unfolding rowBytes
   reads = ap (λ (x : List ℕ). recordsIn x 0 (length rs)) (f .is) ∙ read-after (f .before) [] rs (f .behind) (f .size) fits
 
-  holds : countOf a ≡ length rs → recordStart (length rs) ≤ length b → HoldsAfter a b e rs
-  holds c room = record {
+  holds : (points : Bool) → Named points a → countOf a ≡ length rs → recordStart (length rs) ≤ length b → HoldsAfter a b e rs
+  holds points named c room = record {
     counted = c;
     records = ap (recordsIn e 0) c ∙ reads;
     written = ap (λ (n : ℕ). take (recordSize * n) (drop headerSize e)) c
         ∙ ap (λ (x : List ℕ). take (recordSize * length rs) (drop headerSize x)) (f .is)
         ∙ ap (take (recordSize * length rs)) (drop-at (f .before) (rowBytes rs ++ f .behind) headerSize (f .size))
         ∙ take-at (rowBytes rs) (f .behind) (recordSize * length rs) (length-row rs);
-    front = f .front;
+    front = front-by points a b e named (f .front);
     behind = ap (λ (n : ℕ). drop (recordStart n) e) c
         ∙ ap (drop (recordStart (length rs))) (f .is ∙ sym (append-assoc (f .before) (rowBytes rs) (f .behind)))
         ∙ drop-at (f .before ++ rowBytes rs) (f .behind) (recordStart (length rs)) rows
@@ -94,20 +113,13 @@ record Shown (points : Bool) (size : ℕ) (b : List ℕ) (x : Result) : Type 0 w
   one : Owed points size x b
   two : (count : ℕ) → x .answer ≡ Complete count → IsList count (laidBy x b) (recordsOf (x .steps))
 
-no-list : (alarm place n count : ℕ) → Alarm alarm place n ≡ Complete count → ⊥
-no-list alarm place n count e = subst alarmed e tt
-  where
-    alarmed : Answer → Type 0
-    alarmed (Alarm a p m) = Unit {0}
-    alarmed (Complete m) = ⊥
-
 -- an alarm before any block is begun
 pub none-owed : (points : Bool) (size : ℕ) (b : List ℕ) (alarm place : ℕ) → IsAlarm points alarm → place ≤ size - 1 → place ≤ longestTape → Owed points size (refused alarm place) b
 unfolding laidBy recordsOf rowBytes rowIn
 none-owed points size b alarm place some on near =
     let same : laid b (recordStart 0) [] ≡ b = laid-nil b (recordStart 0) in record {
-      holds = record { counted = refl; records = refl; written = refl; front = ap (take headerSize) same; behind = ap (drop (recordStart 0)) same; size = ap length same };
-      told = record { number = some; place = on; near = near; count = omega arith };
+      holds = record { counted = refl; records = refl; written = refl; front = front-by points (Alarm alarm place 0) b (laid b (recordStart 0) []) (alarm-named points alarm place 0 some) (ap (take headerSize) same); behind = ap (drop (recordStart 0)) same; size = ap length same };
+      told = record { number = alarm-named points alarm place 0 some; place = on; near = near; count = omega arith };
     }
 
 none-shown : (points : Bool) (size : ℕ) (b : List ℕ) (alarm place : ℕ) → IsAlarm points alarm → place ≤ size - 1 → place ≤ longestTape → Shown points size b (refused alarm place)
@@ -116,10 +128,10 @@ none-shown points size b alarm place some on near = record { one = none-owed poi
 -- the numbers of an answer that a run comes to
 told-by : (points : Bool) (h : Ending) (n cut size : ℕ) → cut ≤ size → size ≤ longestTape → StopsOn cut h → n ≤ recordLimit → Told points size (answerBy h n)
 unfolding answerBy
-told-by points Ended n cut size short near on few = record { number = tt; place = omega arith; near = omega arith; count = few }
+told-by points Ended n cut size short near on few = record { number = list-named points n; place = omega arith; near = omega arith; count = few }
 told-by points (Stopped alarm place) n cut size short near on few =
-    record { number = given-more points alarm (on .0); place = omega (arith, short, on .1); near = omega (arith, short, near, on .1); count = few }
-told-by points Returned n cut size short near on few = record { number = refl; place = omega arith; near = omega arith; count = few }
+    record { number = alarm-named points alarm place n (given-more points alarm (on .0)); place = omega (arith, short, on .1); near = omega (arith, short, near, on .1); count = few }
+told-by points Returned n cut size short near on few = record { number = alarm-named points _ 0 n refl; place = omega arith; near = omega arith; count = few }
 
 -- the count of a complete list
 complete-count : {a : Answer} {count : ℕ} → a ≡ Complete count → countOf a ≡ count
@@ -135,7 +147,7 @@ list-count rs tail f = counts (length rs) (f .few)
 listed : (a : Answer) (b e : List ℕ) (rs : List Record) → Form a b e rs → LawfulList rs → (count : ℕ) → a ≡ Complete count → count ≡ length rs → IsList count e rs
 unfolding listBytes
 listed a b e rs f lawful count k c =
-    let front : take headerSize e ≡ headerBytes count = subst (λ (x : Answer). Front x b e) k (f .front) in
+    let front : take headerSize e ≡ headerBytes count = subst (λ (x : Answer). FrontBy x b e) k (f .front) in
     let before : f .before ≡ headerBytes count = sym (ap (take headerSize) (f .is) ∙ take-at (f .before) (rowBytes rs ++ f .behind) headerSize (f .size)) ∙ front in
     let is : e ≡ listBytes rs ++ f .behind =
     f .is
@@ -167,11 +179,9 @@ run-shown points size b header t short near room known range sound p on =
     let many : n ≡ length rs = omega (arith, are) in
     let few : n ≤ t .room = chain-room t (x .steps) r (x .outcome .run) (omega arith) l in
     let inside : recordStart (length rs) ≤ length b = omega (arith, many, room-fits (length b) n header (omega (arith, few, room))) in
-    let lawful : LawfulList rs = record { few = omega (arith, many, few, room, room-few (length b)); each = fits } in record {
-      one = record {
-        holds = holds a b (headed a e) rs f fits (count-by (x .outcome .ending) n ∙ many) inside;
-        told = told-by points (x .outcome .ending) n (length (t .tape)) size short near (leads .stops) (omega (arith, few, room, room-few (length b)));
-      };
+    let lawful : LawfulList rs = record { few = omega (arith, many, few, room, room-few (length b)); each = fits } in
+    let told : Told points size a = told-by points (x .outcome .ending) n (length (t .tape)) size short near (leads .stops) (omega (arith, few, room, room-few (length b))) in record {
+      one = record { holds = holds a b (headed a e) rs f fits points (told .number) (count-by (x .outcome .ending) n ∙ many) inside; told = told };
       two = λ count k. listed a b (headed a e) rs f lawful count k (sym (complete-count k) ∙ count-by (x .outcome .ending) n ∙ many);
     }
 
@@ -191,8 +201,8 @@ module _ (tape : List ℕ) (table : List ℤ) (set : Settings) (b : List ℕ) wh
   demand-one = shown .one
 
   pub demand-two : DemandTwo tape table set b
-  demand-two = shown .two
+  demand-two h = shown .two _ (shown .one .told .number .complete h)
 
   -- 02: "Show that 8 is never given"
   pub never-eight : (place count : ℕ) → answerOf tape table set (length b) ≡ Alarm 8 place count → ⊥
-  never-eight place count e = not-eight (set .points) (subst (Named (set .points)) e (demand-one .told .number))
+  never-eight place count e = not-eight (set .points) (subst (Named (set .points)) e (demand-one .told .number) .alarm (λ z. omega (arith, z)))

@@ -139,4 +139,4 @@ module _ (tape : List ℕ) (table : List ℤ) (set : Settings) where
 
   pub off-no-21 : (b : List ℕ) → OffNo21 tape table set b
   off-no-21 b off place count e =
-      not-missing (subst (λ (points : Bool). IsAlarm points missingPoint) off (subst (Named (set .points)) e (demand-one tape table set b .told .number)))
+      not-missing (subst (λ (points : Bool). IsAlarm points missingPoint) off (subst (Named (set .points)) e (demand-one tape table set b .told .number) .alarm (λ z. omega (arith, z))))

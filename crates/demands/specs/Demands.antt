@@ -3,9 +3,10 @@
 -- division with that sum is shorter, none equally short has a smaller greatest depth. With or without a division no feed move of the cycle goes past the allowance in either axis." Which cycles
 -- a run opened is read off the tape and the state before each step; the depths are read off the records that the step wrote.
 use mathlib.Core.Path.{_≡_}
-use mathlib.Core.Bool.{Bool, true, false}
+use mathlib.Core.Bool.{Bool, true, false, cond}
 use mathlib.Core.List.{List, [], _∷_, _++_}
 use Prim.Native.Nat.{ℕ, _+_, _-_, _*_, _<_, _≤_}
+use lib.Dec.{eqb}
 use lib.IntN.{ℤ}
 use lib.ListN.{length, take, drop}
 use Rattle.moves.specs.Form.{headerSize, recordSize, recordLimit, recordStart, headerBytes, rowBytes, listBytes, LawfulList}
@@ -22,11 +23,11 @@ use Rattle.demands.specs.Opens.{opensTurning, wantedIn, opensThreading, 
 use Rattle.settings.specs.Points.{withPoints}
 use Rattle.settings.specs.declared.control.Settings.{Settings}
 use Rattle.steps.specs.Steps.{Task, taskOf, Step, blockOn}
-use Rattle.answers.specs.Answers.{placeOf, countOf}
-use Rattle.interpreter.specs.Answers.{Result, longestTape, interpretation, answerOf, bufferOf, laidBy}
+use Rattle.answers.specs.Answers.{numberOf, placeOf, countOf}
+use Rattle.interpreter.specs.Answers.{Result, longestTape, interpretation, bufferOf, laidBy}
 use Rattle.runners.specs.Runs.{recordsOf}
 use Rattle.answers.specs.declared.Answer.{Answer}
-use Rattle.answers.specs.declared.Answer.the-variants.{Complete, Alarm}
+use Rattle.answers.specs.declared.Answer.the-variants.{Complete}
 
 -- P of each step
 unfoldable pub Each : (Step → Type 0) → List Step → Type 0
@@ -106,8 +107,7 @@ ThreadPromiseInBuffer tape table set b =
 -- ---- demands 1 and 2
 -- the header's place: that of the list where it is complete, and as it came on an alarm
 abbrev pub Front : Answer → List ℕ → List ℕ → Type 0
-Front (Complete count) b e = take headerSize e ≡ headerBytes count
-Front (Alarm alarm place count) b e = take headerSize e ≡ take headerSize b
+Front a b e = take headerSize e ≡ cond (eqb (numberOf a) 0) (headerBytes (countOf a)) (take headerSize b)
 
 -- what a buffer b holds after an answer, as e, where the steps wrote the records rs: that many records, one after the other, in their bytes; the header's place as `Front` says, and every
 -- byte behind the records as it came
@@ -119,10 +119,10 @@ pub record HoldsAfter (a : Answer) (b e : List ℕ) (rs : List Record) : Type 0 
   pub behind : drop (recordStart (countOf a)) e ≡ drop (recordStart (countOf a)) b
   pub size : length e ≡ length b
 
--- an alarm is one of those that are given where points are asked for or not: 21 comes there alone
-abbrev pub Named : Bool → Answer → Type 0
-Named points (Complete count) = Unit {0}
-Named points (Alarm alarm place count) = IsAlarm points alarm
+-- the number is 0 where the list is complete, and there alone; any other is that of an alarm that is given where points are asked for or not: 21 comes there alone
+pub record Named (points : Bool) (a : Answer) : Type 0 where
+  pub complete : numberOf a ≡ 0 → a ≡ Complete (countOf a)
+  pub alarm : (numberOf a ≡ 0 → ⊥) → IsAlarm points (numberOf a)
 
 -- what the numbers of an answer are, on a tape of so many bytes: the place is that of a byte of the tape, or 0, and has 16 bits; there are no more records than a list may have. (That it is
 -- the place which 01 names is in the definition of `interpretation`.)
@@ -152,7 +152,10 @@ pub record IsList (count : ℕ) (e : List ℕ) (rs : List Record) : Type 0 where
   pub counted : count ≡ length rs
   pub alone : (ss : List Record) (tail : List ℕ) → LawfulList ss → e ≡ listBytes ss ++ tail → ss ≡ rs
 
--- DEMAND 2, of every tape, table, settings and buffer: where the answer is a list, its bytes are those of the run's records and have no other reading
+-- what is owed of a list, as a result in the buffer b: where the answer is a list, its bytes are those of the steps' records and have no other reading
+abbrev pub OwedList : Result → List ℕ → Type 0
+OwedList x b = numberOf (x .answer) ≡ 0 → IsList (countOf (x .answer)) (laidBy x b) (recordsOf (x .steps))
+
+-- DEMAND 2, of every tape, table, settings and buffer. (Where the answer is an alarm, and that it is a list where nothing refuses: `AlarmsStand` of `alarmed`.)
 abbrev pub DemandTwo : List ℕ → List ℤ → Settings → List ℕ → Type 0
-DemandTwo tape table set b =
-    (count : ℕ) → answerOf tape table set (length b) ≡ Complete count → IsList count (bufferOf tape table set b) (recordsOf (interpretation tape table set (length b) .steps))
+DemandTwo tape table set b = OwedList (interpretation tape table set (length b)) b
