@@ -3,11 +3,13 @@
 -- Assumes nothing.
 use mathlib.Core.Path.{_≡_, refl, sym, ap, _∙_}
 use mathlib.Core.Bool.{Bool, cond}
-use Prim.Native.Nat.{ℕ, zero, suc, _-_, _≤_}
+use Prim.Native.Nat.{ℕ, zero, suc, _-_, _<_, _≤_}
 use native.Mathlib.Omega.{arith}
 use lib.IntN.{ℤ, pos, negsuc, negℤ, natAbs, _+ℤ_, _-ℤ_}
 use mir.Syntax.{w32}
 use mir.Val.{SFits}
+use Rattle.whole.specs.declared.signed.Side.{Side}
+use Rattle.whole.specs.declared.signed.Side.the-variants.{Minus, Zero, Plus}
 use Rattle.whole.specs.Signed.{sideOf, along}
 use Rattle.whole.proofs.Integers.{whole, add-in, sub-in, up-neg, down-neg}
 use Rattle.whole.proofs.Sides.{toward}
@@ -23,6 +25,17 @@ line-net a h = go (a .start) (a .target) (a .allowance) (a .target -ℤ a .start
     go s t k (pos (suc n)) e h = omega (whole, add-in s (pos (suc n - k)), sub-in t (pos k), sub-in t s)
     go s t k (negsuc n) e h =
         omega (whole, add-in s (negℤ (pos (suc n - k))), sub-in t (negℤ (pos k)), sub-in t s, up-neg (pos (suc n - k)), down-neg (pos (suc n - k)), up-neg (pos k), down-neg (pos k))
+
+-- a side on which a target lies that is not the start
+abbrev pub Sided : Side → Type 0
+Sided Minus = Unit {0}
+Sided Zero = ⊥
+Sided Plus = Unit {0}
+
+pub sided : (z : ℤ) → 0 < natAbs z → Sided (sideOf z)
+sided (pos zero) h = absurd (omega arith)
+sided (pos (suc n)) h = tt
+sided (negsuc n) h = tt
 
 -- a line no farther than the net distance fits where the start and the target do
 pub line-fits : (a : Axis) → SFits w32 (a .start) → SFits w32 (a .target) → (m : ℕ) → m ≤ net a → SFits w32 (a .start +ℤ along (side a) m)

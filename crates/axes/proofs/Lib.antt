@@ -3,3 +3,4 @@ pub mod Axes
 pub mod Reaching
 pub mod Places
 pub mod Fitting
+pub mod Every

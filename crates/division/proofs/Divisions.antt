@@ -3,7 +3,7 @@
 use mathlib.Core.Path.{_≡_, ap, _∙_, subst}
 use mathlib.Core.List.{List, [], _∷_, _++_}
 use Prim.Native.Nat.{ℕ, zero, suc, _+_, _-_, _*_, _/_, _%_, _≤_, _<_, max, zero-le}
-use native.Mathlib.Nat.{mul-le-mul-left, div-le-of-le-mul, div-lt-iff-lt-mul, lt-mul-div-succ, div-add-mod, mod-lt, add-div-right}
+use native.Mathlib.Nat.{mul-le-mul-left, div-le-of-le-mul, div-lt-iff-lt-mul, lt-mul-div-succ, div-add-mod, mod-lt, add-div-right, div-le-self}
 use native.Mathlib.Decide.{decLe}
 use native.Mathlib.Omega.{arith}
 use lib.ListN.{length, replicate, length-append, length-replicate}
@@ -71,6 +71,10 @@ count-is e d pe pd = let k : e + (d - 1) ≡ (e - 1) + d = omega arith in ap (λ
 
 pub count-above : (e d : ℕ) → 0 < e → 0 < d → 0 < count e d
 count-above e d pe pd = omega (arith, count-is e d pe pd)
+
+-- a length has no more pieces than units
+pub few-pieces : (e d : ℕ) → 0 < e → 0 < d → count e d ≤ e
+few-pieces e d pe pd = omega (arith, count-is e d pe pd, div-le-self (e - 1) d)
 
 -- ---- THE LAW of demand 3
 pub evenly : (e d : ℕ) → 0 < e → 0 < d → Evenly e d (divided e d)

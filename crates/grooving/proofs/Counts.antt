@@ -17,13 +17,14 @@ use Rattle.whole.proofs.Sides.{toward}
 use Rattle.moves.specs.declared.record.Record.{Record}
 use Rattle.moves.specs.Form.{Fitting, AllFitting}
 use Rattle.axes.specs.Goes.{dwellAt}
+use Rattle.axes.proofs.Every.{all-fitting}
 use Rattle.axes.proofs.Fitting.{rapid-fitting, feed-fitting, dwell-fitting}
 use Rattle.grooving.specs.declared.groove.Way.{Way}
 use Rattle.grooving.specs.declared.groove.Groove.{Groove}
 use Rattle.grooving.specs.Grooving.{lengthOf, wrong, rest, stepCount, steps, cuts, outTo, deepAt, cutting, dwelling, plunge, plunges, afterFirst, grooving, plungeCount, recordCount}
 use Rattle.grooving.proofs.Asked.{width-fits}
 use Rattle.grooving.proofs.Rows.{some-cuts, cuts-length, steps-length}
-use Rattle.grooving.proofs.Each.{Every, widthAt, grooving-every}
+use Rattle.grooving.proofs.Each.{widthAt, grooving-every}
 
 -- ---- how many
 -- a feed for each cut, and a rapid between each two
@@ -77,10 +78,6 @@ grooving-length g q =
 pub record Stands (a : Way) : Type 0 where
   pub start : SFits w32 (a .start)
   pub target : SFits w32 (a .target)
-
-all-fitting : (rs : List Record) → Every Fitting rs → AllFitting rs
-all-fitting [] e = tt
-all-fitting (r ∷ rs) e = (e .0, all-fitting rs (e .1))
 
 pub grooving-fitting : (g : Groove) → Stands (g .depth) → Stands (g .width) → g .f < 2 ^ 32 → g .dwell < 2 ^ 32 → wrong g ≡ false → AllFitting (grooving g)
 grooving-fitting g d w v t q =

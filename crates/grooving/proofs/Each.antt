@@ -16,26 +16,10 @@ use Rattle.division.specs.Division.{sum}
 use Rattle.whole.proofs.Sides.{along-add, along-zero, arrives}
 use Rattle.moves.specs.declared.record.Record.{Record}
 use Rattle.axes.specs.Goes.{dwellAt}
+use Rattle.axes.proofs.Every.{Every, joined, front, behind}
 use Rattle.grooving.specs.declared.groove.Groove.{Groove}
 use Rattle.grooving.specs.Grooving.{lengthOf, wayOf, wrong, rest, steps, lastWidth, cuts, cutTo, outTo, deepAt, cutting, dwelling, plunge, plunges, afterFirst, grooving}
 use Rattle.grooving.proofs.Rows.{some-cuts, cuts-length, cuts-sum, steps-sum}
-
--- ---- all of a row
-abbrev pub Every : (Record → Type 0) → List Record → Type 0
-Every P [] = Unit {0}
-Every P (r ∷ rs) = P r × Every P rs
-
-joined : (P : Record → Type 0) (rs qs : List Record) → Every P rs → Every P qs → Every P (rs ++ qs)
-joined P [] qs a b = b
-joined P (r ∷ rs) qs a b = (a .0, joined P rs qs (a .1) b)
-
-front : (P : Record → Type 0) (rs qs : List Record) → Every P (rs ++ qs) → Every P rs
-front P [] qs a = tt
-front P (r ∷ rs) qs a = (a .0, front P rs qs (a .1))
-
-behind : (P : Record → Type 0) (rs qs : List Record) → Every P (rs ++ qs) → Every P qs
-behind P [] qs a = a
-behind P (r ∷ rs) qs a = behind P rs qs (a .1)
 
 -- ---- places
 -- the width place n below the start

@@ -1,36 +1,20 @@
 -- Where a groove reaches: a move of it ends outside the limits just where one of two points does, its start, and the bottom of the last plunge.
 -- Every record lies between these two on each axis, and both are ends of moves.
 -- Assumes nothing.
-use mathlib.Core.Path.{_≡_, refl, sym, _∙_, subst}
+use mathlib.Core.Path.{_≡_, sym, _∙_, subst}
 use mathlib.Core.Bool.{Bool, false, _||_}
-use mathlib.Core.List.{List, [], _∷_}
 use Prim.Native.Nat.{ℕ, _≤_}
 use lib.IntN.{ℤ}
 use Rattle.whole.specs.declared.signed.Side.the-variants.{Minus}
-use Rattle.moves.specs.declared.record.Record.{Record}
 use Rattle.settings.specs.declared.limits.Limits.{Limits}
-use Rattle.settings.specs.Limits.{outsideSpan, outside}
+use Rattle.settings.specs.Limits.{outsideSpan}
 use Rattle.axes.specs.Limits.{outsideTo, anyOutside}
+use Rattle.axes.proofs.Every.{Ends, each-ends, none-outside}
 use Rattle.axes.proofs.Reaching.{span-between}
 use Rattle.axes.proofs.Places.{alike, neither, both, inSpan, acrossSpan, Within, within, not-outside, rapid-ends, feed-ends, dwell-ends}
 use Rattle.grooving.specs.declared.groove.Groove.{Groove}
 use Rattle.grooving.specs.Grooving.{lengthOf, wayOf, wrong, rest, lastWidth, deepAt, grooving}
-use Rattle.grooving.proofs.Each.{Every, widthAt, deep-target, grooving-every, first-out, last-bottom}
-
--- ---- one record
-abbrev Ends : Limits → Record → Type 0
-Ends l r = outside l (r .x) (r .z) ≡ false
-
--- ---- a row of records
-each-ends : (l : Limits) (rs : List Record) → anyOutside l rs ≡ false → Every (Ends l) rs
-unfolding anyOutside
-each-ends l [] e = tt
-each-ends l (r ∷ rs) e = let n = neither (outside l (r .x) (r .z)) (anyOutside l rs) e in (n .0, each-ends l rs (n .1))
-
-none-outside : (l : Limits) (rs : List Record) → Every (Ends l) rs → anyOutside l rs ≡ false
-unfolding anyOutside
-none-outside l [] e = refl
-none-outside l (r ∷ rs) e = both (outside l (r .x) (r .z)) (anyOutside l rs) (e .0) (none-outside l rs (e .1))
+use Rattle.grooving.proofs.Each.{widthAt, deep-target, grooving-every, first-out, last-bottom}
 
 -- ---- THE LAW
 pub reach : (l : Limits) (g : Groove) → wrong g ≡ false

@@ -4,20 +4,15 @@ use mathlib.Core.Path.{_≡_, refl, sym, ap, _∙_, subst}
 use mathlib.Core.Bool.{Bool, true, false, cond}
 use mathlib.Core.List.{[]}
 use Prim.Native.Nat.{ℕ, zero, suc, _+_, _-_, _*_, _<_, _≤_}
-use native.Mathlib.Nat.{div-le-self}
 use native.Mathlib.Omega.{arith}
 use lib.Dec.{eqb}
 use lib.ListN.{length}
 use borrow.Author.Tests.{eq-eqb, ne-eqb}
 use Rattle.division.specs.Division.{count, pieces, sum}
-use Rattle.division.proofs.Divisions.{count-above, count-is, pieces-length, pieces-sum}
+use Rattle.division.proofs.Divisions.{count-above, few-pieces, pieces-length, pieces-sum}
 use Rattle.grooving.specs.declared.groove.Groove.{Groove}
 use Rattle.grooving.specs.Grooving.{lengthOf, wrong, rest, stepCount, steps, cutCount, cuts, plungeCount}
 use Rattle.grooving.proofs.Asked.{asked}
-
--- a length has no more pieces than units
-few-pieces : (e d : ℕ) → 0 < e → 0 < d → count e d ≤ e
-few-pieces e d h k = omega (arith, count-is e d h k, div-le-self (e - 1) d)
 
 -- ---- cuts
 some-pieces : (e d : ℕ) → 0 < e → 0 < cond (eqb d 0) 1 (count e d)

@@ -4,7 +4,6 @@ use mathlib.Core.Path.{_≡_, refl, sym, ap, _∙_, subst}
 use mathlib.Core.Bool.{Bool}
 use mathlib.Core.List.{List, [], _∷_, _++_}
 use Prim.Native.Nat.{ℕ, zero, suc, _+_, _-_, _*_, _<_, _≤_, _^_}
-use native.Mathlib.Nat.{div-le-self}
 use native.Mathlib.Omega.{arith}
 use lib.IntN.{ℤ, _+ℤ_, _-ℤ_, natAbs}
 use lib.ListN.{length, length-append}
@@ -15,7 +14,7 @@ use Rattle.whole.specs.declared.signed.Side.{Side}
 use Rattle.whole.specs.Signed.{along}
 use Rattle.division.specs.Division.{sum}
 use Rattle.whole.proofs.Sides.{along-add, along-zero}
-use Rattle.division.proofs.Divisions.{count-is, pieces-length, pieces-sum}
+use Rattle.division.proofs.Divisions.{few-pieces, pieces-length, pieces-sum}
 use Rattle.whole.proofs.Integers.{whole, range, sub-in, abs}
 use Rattle.moves.specs.Form.{AllFitting}
 use Rattle.axes.specs.declared.axis.Axis.{Axis}
@@ -81,11 +80,11 @@ turning-fitting c i p v h g =
 
 -- ---- and how many they can be
 -- a length has no more passes than units
-few-passes : (e d : ℕ) → 0 < e → passCount e d ≤ e
+pub few-passes : (e d : ℕ) → 0 < e → passCount e d ≤ e
 unfolding passCount
 few-passes e zero h = h
 few-passes e (suc d) h =
-    rw (ne-eqb (suc d) 0 (λ z. absurd (omega arith))) (omega (arith, count-is e (suc d) h (omega arith), div-le-self (e - 1) (suc d)))
+    rw (ne-eqb (suc d) 0 (λ z. absurd (omega arith))) (few-pieces e (suc d) h (omega arith))
 
 -- two places that fit lie less than 2 ^ 32 apart
 pub apart : (a b : ℤ) → SFits w32 a → SFits w32 b → natAbs (a -ℤ b) < 2 ^ 32

@@ -7,13 +7,13 @@ use Prim.Native.Nat.{ℕ, zero, suc, _+_, _-_, _<_, _≤_}
 use native.Mathlib.Nat.{mod-one, div-one}
 use native.Mathlib.Omega.{arith}
 use lib.Dec.{ltb, eqb}
-use lib.IntN.{ℤ, pos, negsuc, _+ℤ_, _-ℤ_, natAbs, negℤ}
+use lib.IntN.{ℤ, pos, _+ℤ_, _-ℤ_, natAbs, negℤ}
 use lib.ListN.{replicate}
 use lib.Signed.{_≤ℤ_}
 use borrow.Author.Tests.{lt-ltb, ne-eqb}
 use Rattle.whole.specs.declared.signed.Side.{Side}
 use Rattle.whole.specs.declared.signed.Side.the-variants.{Minus, Zero, Plus}
-use Rattle.whole.specs.Signed.{sideOf, along}
+use Rattle.whole.specs.Signed.{along}
 use Rattle.division.specs.Division.{count, pieces, divided, sum, Evenly}
 use Rattle.whole.proofs.Integers.{whole, add-in, sub-in, up-neg, down-neg, abs}
 use Rattle.whole.proofs.Sides.{along-add, along-zero}
@@ -22,28 +22,18 @@ use Rattle.moves.specs.declared.record.Record.{Record}
 use Rattle.axes.specs.declared.axis.Axis.{Axis}
 use Rattle.axes.specs.Axis.{side, net, allowanceLine}
 use Rattle.axes.specs.Goes.{rapidTo, feedTo, inwardOf, acrossOf}
-use Rattle.axes.proofs.Axes.{line-net}
+use Rattle.axes.proofs.Axes.{line-net, Sided, sided}
 use Rattle.turning.specs.declared.cycle.Turning.{Turning}
 use Rattle.turning.specs.Turning.{passCount, row, passFor, passOn, passes, turning}
 use Rattle.turning.specs.Turned.{feedKind, passLines, beyond, eachDepth, NotPast, Within, Feeds, FeedsWithin, Turned}
 
 -- ---- one axis
 -- an axis with something left has a side
-abbrev Sided : Side → Type 0
-Sided Minus = Unit {0}
-Sided Zero = ⊥
-Sided Plus = Unit {0}
-
-sided : (a : Axis) → 0 < net a → Sided (side a)
-sided a h = go (a .target -ℤ a .start) (omega arith)
-  where
-    go : (z : ℤ) → 0 < natAbs z → Sided (sideOf z)
-    go (pos zero) h = absurd (omega arith)
-    go (pos (suc n)) h = tt
-    go (negsuc n) h = tt
+net-sided : (a : Axis) → 0 < net a → Sided (side a)
+net-sided a h = sided (a .target -ℤ a .start) (omega arith)
 
 -- what was gone from l to a side is how far the end lies beyond l
-beyond-along : (s : Side) (l : ℤ) (d : ℕ) → Sided s → beyond s l (l +ℤ along s d) ≡ pos d
+pub beyond-along : (s : Side) (l : ℤ) (d : ℕ) → Sided s → beyond s l (l +ℤ along s d) ≡ pos d
 beyond-along Minus l d n = omega (whole, add-in l (negℤ (pos d)), sub-in l (l +ℤ negℤ (pos d)), up-neg (pos d), down-neg (pos d))
 beyond-along Zero l d n = absurd n
 beyond-along Plus l d n = omega (whole, add-in l (pos d), sub-in (l +ℤ pos d) l)
@@ -66,17 +56,17 @@ not-past-line : (a : Axis) → 0 < net a → NotPast a (allowanceLine a)
 not-past-line a h = subst (NotPast a) (line-net a (omega arith)) (not-past a (net a) h (omega arith))
 
 -- ---- reading a record that the cycle makes
-record Reads (facing : Bool) (r : Record) (k : ℕ) (i a : ℤ) : Type 0 where
-  kind : r .kind ≡ k
-  inward : inwardOf facing r ≡ i
-  across : acrossOf facing r ≡ a
+pub record Reads (facing : Bool) (r : Record) (k : ℕ) (i a : ℤ) : Type 0 where
+  pub kind : r .kind ≡ k
+  pub inward : inwardOf facing r ≡ i
+  pub across : acrossOf facing r ≡ a
 
-rapid-reads : (facing : Bool) (i a : ℤ) → Reads facing (rapidTo facing i a) 1 i a
+pub rapid-reads : (facing : Bool) (i a : ℤ) → Reads facing (rapidTo facing i a) 1 i a
 unfolding rapidTo
 rapid-reads true i a = record { kind = refl; inward = refl; across = refl }
 rapid-reads false i a = record { kind = refl; inward = refl; across = refl }
 
-feed-reads : (facing : Bool) (f : ℕ) (g95 : Bool) (i a : ℤ) → Reads facing (feedTo facing f g95 i a) feedKind i a
+pub feed-reads : (facing : Bool) (f : ℕ) (g95 : Bool) (i a : ℤ) → Reads facing (feedTo facing f g95 i a) feedKind i a
 unfolding feedTo
 feed-reads true f g95 i a = record { kind = refl; inward = refl; across = refl }
 feed-reads false f g95 i a = record { kind = refl; inward = refl; across = refl }
@@ -90,7 +80,7 @@ lines-cons c i p rs r =
 
 -- an end of the path that is not its start
 way : (a : Axis) → 0 < net a → 0 < natAbs (allowanceLine a -ℤ a .start)
-way a h = subst (λ (z : ℤ). 0 < natAbs (z -ℤ a .start)) (line-net a (omega arith)) (go (side a) (sided a h))
+way a h = subst (λ (z : ℤ). 0 < natAbs (z -ℤ a .start)) (line-net a (omega arith)) (go (side a) (net-sided a h))
   where
     go : (s : Side) → Sided s → 0 < natAbs ((a .start +ℤ along s (net a)) -ℤ a .start)
     go Minus t = omega (whole, abs ((a .start +ℤ negℤ (pos (net a))) -ℤ a .start), sub-in (a .start +ℤ negℤ (pos (net a))) (a .start), add-in (a .start) (negℤ (pos (net a))), up-neg (pos (net a)), down-neg (pos (net a)))
@@ -128,7 +118,7 @@ row-read c h p l [] = refl
 row-read c h p l (d ∷ ds) =
     let k = l +ℤ along (side (c .infeed)) d in
     ap (eachDepth (side (c .infeed)) l) (pass-line c (c .infeed .start) k (passes (passOn (passFor c)) (side (c .infeed)) k ds) p)
-    ∙ λ j. beyond-along (side (c .infeed)) l d (sided (c .infeed) h) j ∷ row-read c h p k ds j
+    ∙ λ j. beyond-along (side (c .infeed)) l d (net-sided (c .infeed) h) j ∷ row-read c h p k ds j
 
 -- ---- no feed past the allowance
 feeds-cons : (c : Turning) (i p : ℤ) {r : Record} {k : ℕ} {j q : ℤ} (rs : List Record) → Reads (c .facing) r k j q
