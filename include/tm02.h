@@ -13,7 +13,7 @@
 extern "C" {
 #endif
 
-/* The places of the eleven settings. Main is 0 to 6999 and not from the lowest subroutine to 255, lowest subroutine 0 to 255, retract 0 to 32767, empty cuts (of a thread whose block
+/* The places of the eleven settings. Main is 0 to 6999 and not from the lowest subroutine to 255, lowest subroutine 0 to 255, retract (of G86, G87 and G88) 0 to 32767, empty cuts (of a thread whose block
    names none; factory 1) 0 to 32767, points 1 where an X, Z, U or W number without a point is alarm 21 unless it is 0, else 0; the others and the table's
    numbers are -9999999 to 9999999, no lowest limit above its highest, the start within the limits. All lengths are in 0.001 mm, and what is said of X counts on the diameter. */
 enum {

@@ -39,6 +39,8 @@ motion-needs motion.Dwell = omega arith
 motion-needs motion.Turning = omega arith
 motion-needs motion.Threading = omega arith
 motion-needs motion.Grooving = omega arith
+motion-needs motion.ChipBreaking = omega arith
+motion-needs motion.Redrawing = omega arith
 
 pub needs-in : (k : Code) → standsBy k .needs ≤ none
 unfolding standsBy standsFreely
@@ -63,6 +65,8 @@ motion-bits motion.Dwell = omega arith
 motion-bits motion.Turning = omega arith
 motion-bits motion.Threading = omega arith
 motion-bits motion.Grooving = omega arith
+motion-bits motion.ChipBreaking = omega arith
+motion-bits motion.Redrawing = omega arith
 
 pub bits-in : (k : Code) → standsBy k .bits ≤ none
 unfolding standsBy standsFreely

@@ -28,7 +28,7 @@ unfolding gCode cuttingBy
 speeds = refl
 
 -- numbers beside the ranges
-pub no-g : map gCode (2 ∷ 3 ∷ 52 ∷ 60 ∷ 93 ∷ 98 ∷ []) ≡ (Unknown ∷ Unknown ∷ Unknown ∷ Unknown ∷ Unknown ∷ Unknown ∷ [])
+pub no-g : map gCode (2 ∷ 3 ∷ 52 ∷ 60 ∷ 83 ∷ 89 ∷ 93 ∷ 98 ∷ []) ≡ (Unknown ∷ Unknown ∷ Unknown ∷ Unknown ∷ Unknown ∷ Unknown ∷ Unknown ∷ Unknown ∷ [])
 unfolding gCode
 no-g = refl
 
@@ -58,6 +58,10 @@ pub threads-stay : keep (kept.Of motion.Threading) (kept.Of motion.Feed) ≡ kep
 unfolding keep
 threads-stay = refl
 
+pub drills-stay : keep (kept.Of motion.Redrawing) (kept.Of motion.Feed) ≡ kept.Of motion.Feed
+unfolding keep
+drills-stay = refl
+
 -- "D0 D2 D3 with G84; D3 D4 D5 with G86"
 pub with-g84 : map (isTaken (standsWith motion.Turning .takes)) (0 ∷ 1 ∷ 2 ∷ 3 ∷ 4 ∷ 5 ∷ []) ≡ (true ∷ false ∷ true ∷ true ∷ false ∷ false ∷ [])
 unfolding standsWith isTaken
@@ -72,6 +76,16 @@ pub with-g85 : map (isTaken (standsWith motion.Threading .takes)) (0 ∷ 1 ∷ 2
     ≡ (false ∷ false ∷ false ∷ true ∷ true ∷ false ∷ true ∷ true ∷ false ∷ false ∷ [])
 unfolding standsWith isTaken
 with-g85 = refl
+
+-- 02, G87 and G88: "D words but D3 to D6 in 9"
+pub with-g87 : map (isTaken (standsWith motion.ChipBreaking .takes)) (0 ∷ 1 ∷ 2 ∷ 3 ∷ 4 ∷ 5 ∷ 6 ∷ 7 ∷ 8 ∷ 9 ∷ [])
+    ≡ (false ∷ false ∷ false ∷ true ∷ true ∷ true ∷ true ∷ false ∷ false ∷ false ∷ [])
+unfolding standsWith isTaken
+with-g87 = refl
+
+pub with-g88 : standsWith motion.Redrawing ≡ standsWith motion.ChipBreaking
+unfolding standsWith
+with-g88 = refl
 
 -- a motion that takes no D word
 pub with-g01 : map (isTaken (standsWith motion.Feed .takes)) (0 ∷ 1 ∷ 2 ∷ 3 ∷ 4 ∷ 5 ∷ 6 ∷ 7 ∷ 8 ∷ 9 ∷ [])

@@ -10,7 +10,7 @@ use Rattle.codes.specs.declared.meaning.Flow.the-variants as flow
 use Rattle.acts.specs.declared.acting.Kept.{Kept}
 use Rattle.acts.specs.declared.acting.Kept.the-variants.{Nothing, Of}
 
--- "00 01 33 (kept) and 04 84 86 (that block only; the kept one stays)"; G85 goes with G84 and G86
+-- "00 01 33 (kept) and 04 84 86 (that block only; the kept one stays)"; G85, G87 and G88 go with G84 and G86
 unfoldable pub keep : Kept → Kept → Kept
 keep Nothing before = before
 keep (Of motion.Rapid) before = Of motion.Rapid
@@ -20,6 +20,8 @@ keep (Of motion.Dwell) before = before
 keep (Of motion.Turning) before = before
 keep (Of motion.Threading) before = before
 keep (Of motion.Grooving) before = before
+keep (Of motion.ChipBreaking) before = before
+keep (Of motion.Redrawing) before = before
 
 -- the motion that a number says, else the one before
 unfoldable pub motionBy : Code → Kept → Kept

@@ -1,5 +1,5 @@
 // What a number says of one thing, else what was before: the motion and what is kept of it, a shift, how S and F count; and whether an M number ends the run or returns.
-// (01: "0 is 00 01 33 (kept) and 04 84 86 (that block only; the kept one stays)", with which G85 goes; "G54 and G55 call shifts 1 and 2, ..; G53 and G56 cancel".)
+// (01: "0 is 00 01 33 (kept) and 04 84 86 (that block only; the kept one stays)", with which G85, G87 and G88 go; "G54 and G55 call shifts 1 and 2, ..; G53 and G56 cancel".)
 use codes::meaning::Code;
 use codes::meaning::Flow;
 use codes::meaning::Meaning;
@@ -27,6 +27,8 @@ pub fn keep_of(now: Kept, before: Kept) -> Kept
             Motion::Turning => before,
             Motion::Threading => before,
             Motion::Grooving => before,
+            Motion::ChipBreaking => before,
+            Motion::Redrawing => before,
         },
     }
 }

@@ -1,17 +1,18 @@
 // What a motion asks of the other words of its block, and what it forbids: a row for each. (01: "no G04 with G25 or G27; .. G04 takes no path word; D4 stands with G04 (missing: a dwell
 // of 0); D0 D2 D3 with G84; D3 D4 D5 with G86; no other P or D. G84 and G86 need one word of each axis, G86 also D5." 02, G85: "D words but D3 D4 D6 D7, an axis
-// missing or D7 above 7 in 9".)
+// missing or D7 above 7 in 9"; G87 and G88: "X or U, no Z or W, or D words but D3 to D6 in 9".)
 use codes::meaning::Code;
 use codes::meaning::Meaning;
 use codes::meaning::Motion;
 ghost use mathlib.Core.Path.{_≡_};
-ghost use Rattle.acts.specs.Stands.{standsFreely, standsWith, standsBy};
+ghost use Rattle.acts.specs.Stands.{standsFreely, drillsWith, standsWith, standsBy};
 
 // Which path words may stand, and which must: X or U, and Z or W.
 pub enum Path {
     Any,
     Forbidden,
     EachAxis,
+    ZAlone,
 }
 
 pub struct Stands {
@@ -40,6 +41,19 @@ pub fn stands_freely() -> Stands
         needs: NONE,
         bits: NONE,
         path: Path::Any,
+        calls: true,
+    }
+}
+
+// G87 and G88 ask the same.
+fn drills_with() -> Stands
+    ensures { λ r. ⌜ r ≡ drillsWith ⌝ }
+{
+    Stands {
+        takes: [3, 4, 5, 6],
+        needs: NONE,
+        bits: NONE,
+        path: Path::ZAlone,
         calls: true,
     }
 }
@@ -79,6 +93,8 @@ pub fn stands_with(m: Motion) -> Stands
             path: Path::EachAxis,
             calls: true,
         },
+        Motion::ChipBreaking => drills_with(),
+        Motion::Redrawing => drills_with(),
     }
 }
 

@@ -81,6 +81,8 @@ move-aims motion.Dwell b s l = dwell-aims _ l
 move-aims motion.Turning b s l = cycle-aims _ l
 move-aims motion.Threading b s l = cycle-aims _ l
 move-aims motion.Grooving b s l = cycle-aims _ l
+move-aims motion.ChipBreaking b s l = cycle-aims _ l
+move-aims motion.Redrawing b s l = cycle-aims _ l
 
 path-aims : (path : Bool) (l : Limits) → path ≡ asksOf (cond path Aimless Nothing) l .nowhere
 unfolding asksOf

@@ -44,7 +44,7 @@ pub const D: usize = 21;
 
 pub const L: usize = 31;
 
-// G00 G01 G33 G04 G84 G85 G86; G96 G97; G94 G95; G53 to G55; G56 to G59; G25 G27
+// G00 G01 G33 G04 G84 to G88; G96 G97; G94 G95; G53 to G55; G56 to G59; G25 G27
 const G: usize = 32;
 
 pub const MOTION: usize = G + 0;

@@ -17,9 +17,11 @@ use Rattle.interpreter.proofs.Whole.{none-begun}
 use Rattle.demands.specs.Demands.{Owed, OwedList, Each, EachFrom, EveryCycle, CutIn, Threads, ThreadsIn}
 use Rattle.demands.proofs.Holding.{none-owed, demand-one, demand-two}
 use Rattle.demands.proofs.Demands.{demand-three, thread-promise, demand-three-in-buffer, thread-promise-in-buffer}
+use Rattle.demands.specs.Strokes.{Deepens, DeepensIn}
+use Rattle.demands.proofs.Strokes.{depth-law, depth-law-in-buffer}
 use Rattle.alarmed.proofs.Alone.{alarms-stand}
 use Rattle.settings.specs.Row.{unfit, settingsOf}
-use Rattle.board.specs.Door.{atDoor, answerAt, bufferAt, Packed, DemandOneAtDoor, DemandTwoAtDoor, inputAt, AlarmsStandAtDoor, taskAt, DemandThreeAtDoor, DemandThreeInBufferAtDoor, ThreadPromiseAtDoor, ThreadPromiseInBufferAtDoor, Fits}
+use Rattle.board.specs.Door.{atDoor, answerAt, bufferAt, Packed, DemandOneAtDoor, DemandTwoAtDoor, inputAt, AlarmsStandAtDoor, taskAt, DemandThreeAtDoor, DemandThreeInBufferAtDoor, ThreadPromiseAtDoor, ThreadPromiseInBufferAtDoor, DepthLawAtDoor, DepthLawInBufferAtDoor, Fits}
 
 -- ---- the numbers of an answer, as they stand in one
 pub packs : (a : Answer) (r : ℕ) → Fits a → numberOf a < 256 → r ≡ countOf a + 65_536 * (placeOf a + 65_536 * numberOf a) → Packed a r
@@ -98,6 +100,15 @@ module _ (tape : List ℕ) (table numbers : List ℤ) (b : List ℕ) where
   unfolding EachFrom
   thread-promise-in-buffer-at-door =
       at-door (λ x. EachFrom (ThreadsIn (taskAt tape table numbers (length b)) (laidBy x b)) 0 (x .steps)) tt (thread-promise-in-buffer tape table (settingsOf numbers) b)
+
+  pub depth-law-at-door : DepthLawAtDoor tape table numbers (length b)
+  unfolding Each
+  depth-law-at-door = at-door (λ x. Each (Deepens (taskAt tape table numbers (length b))) (x .steps)) tt (depth-law tape table (settingsOf numbers) (length b))
+
+  pub depth-law-in-buffer-at-door : DepthLawInBufferAtDoor tape table numbers b
+  unfolding EachFrom
+  depth-law-in-buffer-at-door =
+      at-door (λ x. EachFrom (DeepensIn (taskAt tape table numbers (length b)) (laidBy x b)) 0 (x .steps)) tt (depth-law-in-buffer tape table (settingsOf numbers) b)
 
   pub answer-fits : (set : Settings) {a : Answer} → a ≡ answerOf tape table set (length b) → Fits a
   answer-fits set {a} k =

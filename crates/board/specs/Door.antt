@@ -12,6 +12,7 @@ use Rattle.interpreter.specs.Answers.{Result, refused, interpretation, laidBy}
 use Rattle.answers.specs.declared.Answer.{Answer}
 use Rattle.steps.specs.Steps.{Task}
 use Rattle.demands.specs.Demands.{Owed, OwedList, Each, EachFrom, EveryCycle, CutIn, Threads, ThreadsIn, task}
+use Rattle.demands.specs.Strokes.{Deepens, DeepensIn}
 use Rattle.alarmed.specs.Tests.{Input}
 use Rattle.alarmed.specs.Alarmed.{answered, AlarmsStand}
 
@@ -65,6 +66,14 @@ ThreadPromiseAtDoor tape table numbers bytes = Each (Threads (taskAt tape table 
 abbrev pub ThreadPromiseInBufferAtDoor : List ℕ → List ℤ → List ℤ → List ℕ → Type 0
 ThreadPromiseInBufferAtDoor tape table numbers b =
     EachFrom (ThreadsIn (taskAt tape table numbers (length b)) (bufferAt tape table numbers b)) 0 (atDoor tape table numbers (length b) .steps)
+
+-- the law of G84, G86, G87 and G88, in both forms
+abbrev pub DepthLawAtDoor : List ℕ → List ℤ → List ℤ → ℕ → Type 0
+DepthLawAtDoor tape table numbers bytes = Each (Deepens (taskAt tape table numbers bytes)) (atDoor tape table numbers bytes .steps)
+
+abbrev pub DepthLawInBufferAtDoor : List ℕ → List ℤ → List ℤ → List ℕ → Type 0
+DepthLawInBufferAtDoor tape table numbers b =
+    EachFrom (DeepensIn (taskAt tape table numbers (length b)) (bufferAt tape table numbers b)) 0 (atDoor tape table numbers (length b) .steps)
 
 -- ---- what is known of an answer before it is packed
 -- an answer whose place and count have 16 bits

@@ -1,5 +1,5 @@
 -- 01: "G groups (001): 0 is 00 01 33 (kept) and 04 84 86 (that block only; the kept one stays); 1 is 96 97; 2 is 94 95; 3 is 53 54 55; 5 is 56 to 59; 6 is
--- 25 27; 7 is 71. M groups: 0 is 03 04 05; 3 is 08 09; 2 is 00 17 30." 02: "Threads, G85", of group 0 and for its block only. "G54 and G55 call shifts 1 and 2, G57 to G59 shifts 3 to 5 (001); G53 and G56 cancel."
+-- 25 27; 7 is 71. M groups: 0 is 03 04 05; 3 is 08 09; 2 is 00 17 30." 02: "Threads, G85" and "Drilling, G87 and G88", of group 0 and for their block only. "G54 and G55 call shifts 1 and 2, G57 to G59 shifts 3 to 5 (001); G53 and G56 cancel."
 use mathlib.Core.Bool.{cond, _&&_}
 use mathlib.Core.List.{List, [], _∷_}
 use Prim.Native.Nat.{ℕ, _+_, _-_}
@@ -37,6 +37,15 @@ turningNumber = 84
 abbrev pub threadingNumber : ℕ
 threadingNumber = 85
 
+abbrev pub groovingNumber : ℕ
+groovingNumber = 86
+
+abbrev pub chipBreakingNumber : ℕ
+chipBreakingNumber = 87
+
+abbrev pub redrawingNumber : ℕ
+redrawingNumber = 88
+
 abbrev pub gRows : List Row
 gRows =
     one 0 0 (means.Moves motion.Rapid)
@@ -45,7 +54,9 @@ gRows =
     ∷ one 4 0 (means.Moves motion.Dwell)
     ∷ one turningNumber 0 (means.Moves motion.Turning)
     ∷ one threadingNumber 0 (means.Moves motion.Threading)
-    ∷ one 86 0 (means.Moves motion.Grooving)
+    ∷ one groovingNumber 0 (means.Moves motion.Grooving)
+    ∷ one chipBreakingNumber 0 (means.Moves motion.ChipBreaking)
+    ∷ one redrawingNumber 0 (means.Moves motion.Redrawing)
     ∷ range 96 97 1 (λ n. means.CuttingSpeed (eqb n 96))
     ∷ range 94 95 2 (λ n. means.PerRevolution (eqb n 95))
     ∷ one 53 3 (means.Shift 0)

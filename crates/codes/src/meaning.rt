@@ -12,6 +12,9 @@ pub enum Motion {
     Turning,
     Threading,
     Grooving,
+    // the two drilling cycles, as manual 001 calls them: G87, G88
+    ChipBreaking,
+    Redrawing,
 }
 
 // Group 6 of G: G25, G27.
@@ -61,6 +64,8 @@ pub fn g_code(n: u32) -> Code
         84 => Code::Of(0, Meaning::Moves(Motion::Turning)),
         85 => Code::Of(0, Meaning::Moves(Motion::Threading)),
         86 => Code::Of(0, Meaning::Moves(Motion::Grooving)),
+        87 => Code::Of(0, Meaning::Moves(Motion::ChipBreaking)),
+        88 => Code::Of(0, Meaning::Moves(Motion::Redrawing)),
         96..=97 => Code::Of(1, Meaning::CuttingSpeed(n == 96)),
         94..=95 => Code::Of(2, Meaning::PerRevolution(n == 95)),
         53 => Code::Of(3, Meaning::Shift(0)),

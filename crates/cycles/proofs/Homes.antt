@@ -1,4 +1,4 @@
--- A cycle ends where it began. (The two parts are those of `demands`, `Standing`; their places are `turning` and `grooving`.)
+-- A cycle ends where it began. (The two parts are those of `demands`, `Standing`; their places are `turning`, `grooving` and `drilling`.)
 -- Assumes nothing.
 use mathlib.Core.Path.{_≡_, refl, ap, _∙_}
 use mathlib.Core.List.{List, [], _∷_, _++_}
@@ -15,8 +15,10 @@ use Rattle.turning.specs.declared.cycle.Turning as turns
 use Rattle.threading.proofs.Counts.{threading-last}
 use Rattle.grooving.specs.Grooving.{cuts, cutting, dwelling, plunge, plunges, afterFirst, steps, grooving, outTo}
 use Rattle.grooving.specs.declared.groove.Groove.{Groove}
+use Rattle.drilling.specs.Drilling as drill
+use Rattle.drilling.specs.declared.bore.Bore.{Bore}
 use Rattle.cycles.specs.declared.Cycle.{Cycle}
-use Rattle.cycles.specs.declared.Cycle.the-variants.{Turning, Threading, Grooving}
+use Rattle.cycles.specs.declared.Cycle.the-variants.{Turning, Threading, Grooving, Drilling}
 use Rattle.cycles.specs.Cycle.{records}
 use Rattle.cycles.specs.Known.{home}
 use Rattle.moves.specs.Last.{lastOf}
@@ -75,8 +77,16 @@ module _ (f : Record → ℤ) where
         last-append (plunge g (g .width .start)) (afterFirst g (steps g)) y
         ∙ after-last (steps g) (lastOf f y (plunge g (g .width .start))) (plunge-last (g .width .start) y ∙ home)
 
+  -- ---- and a bore
+  drilling-last : (b : Bore) (y : ℤ) → lastOf f y (drill.drilling b) ≡ f (drill.outTo b (b .start))
+  unfolding drill.drilling
+  drilling-last b y =
+      last-append (drill.boring b 0 (drill.bites b)) (drill.dwelling b ++ (drill.outTo b (b .start) ∷ [])) y
+      ∙ ends-last (drill.dwelling b) (drill.outTo b (b .start)) (lastOf f y (drill.boring b 0 (drill.bites b)))
+
   -- ---- THE LAW, with a clause for each cycle
   pub goes-home : (c : Cycle) (x : ℤ) → f (home c) ≡ x → lastOf f x (records c) ≡ x
   goes-home (Turning c) x h = turning-last c x h
   goes-home (Threading t) x h = threading-last f t x h
   goes-home (Grooving g) x h = grooving-last g x h x
+  goes-home (Drilling b) x h = drilling-last b x ∙ h

@@ -19,8 +19,13 @@ use Rattle.grooving.specs.declared.groove.Groove.{Groove}
 use Rattle.grooving.specs.Grooving as groove
 use Rattle.grooving.proofs.Counts as groove-laws
 use Rattle.grooving.proofs.Rows.{few-steps, few-plunge}
+use Rattle.drilling.specs.declared.bore.Bore.{Bore}
+use Rattle.drilling.specs.Drilling as drill
+use Rattle.drilling.proofs.Asked.{stroke-fits}
+use Rattle.drilling.proofs.Counts as drill-laws
+use Rattle.drilling.proofs.Each.{Stands, drilling-fitting}
 use Rattle.cycles.specs.declared.Cycle.{Cycle}
-use Rattle.cycles.specs.declared.Cycle.the-variants.{Turning, Threading, Grooving}
+use Rattle.cycles.specs.declared.Cycle.the-variants.{Turning, Threading, Grooving, Drilling}
 use Rattle.cycles.specs.Cycle.{wrong, records}
 use Rattle.cycles.specs.Known.{Known}
 
@@ -73,8 +78,17 @@ groove-lawful g e k =
       fitting = groove-laws.grooving-fitting g depth width (k .2) (k .3) e;
     }
 
+-- ---- a bore
+bore-lawful : (b : Bore) → drill.wrong b ≡ false → Known (Drilling b) → Lawful (Drilling b)
+bore-lawful b e k =
+    let stands : Stands b = record { x = k .0; start = k .1 .0; target = k .1 .1; f = k .2; dwell = k .3 } in record {
+      few = omega (arith, drill-laws.drilling-length b e, drill-laws.few-records b e, stroke-fits b (k .1 .0) (k .1 .1));
+      fitting = drilling-fitting b stands e;
+    }
+
 -- ---- THE LAW, with a clause for each cycle
 pub lawful : (c : Cycle) → wrong c ≡ false → Known c → Lawful c
 lawful (Turning c) e k = turning-lawful c e k
 lawful (Threading t) e k = thread-lawful t e k
 lawful (Grooving g) e k = groove-lawful g e k
+lawful (Drilling b) e k = bore-lawful b e k

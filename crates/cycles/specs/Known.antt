@@ -6,8 +6,9 @@ use Rattle.moves.specs.declared.record.Record.{Record}
 use Rattle.axes.specs.Goes.{rapidTo}
 use Rattle.threading.specs.Threading as thread
 use Rattle.grooving.specs.Grooving as groove
+use Rattle.drilling.specs.Drilling as drill
 use Rattle.cycles.specs.declared.Cycle.{Cycle}
-use Rattle.cycles.specs.declared.Cycle.the-variants.{Turning, Threading, Grooving}
+use Rattle.cycles.specs.declared.Cycle.the-variants.{Turning, Threading, Grooving, Drilling}
 
 -- what is known of a cycle that a block gave: its numbers fit their places, and its start and target are not too far apart to count its records in 64 bits
 abbrev pub Known : Cycle → Type 0
@@ -17,9 +18,11 @@ Known (Grooving g) =
     (SFits w32 (g .depth .start) × SFits w32 (g .depth .target)) × (SFits w32 (g .width .start) × SFits w32 (g .width .target)) × (g .f < 2 ^ 32) × (g .dwell < 2 ^ 32)
     × (groove.lengthOf (g .depth) < 100_000_000)
     × (groove.lengthOf (g .width) < 100_000_000)
+Known (Drilling b) = SFits w32 (b .x) × (SFits w32 (b .start) × SFits w32 (b .target)) × (b .f < 2 ^ 32) × (b .dwell < 2 ^ 32)
 
 -- the record at the place where the cycle starts: it goes back there in the end
 abbrev pub home : Cycle → Record
 home (Turning c) = rapidTo (c .facing) (c .infeed .start) (c .path .start)
 home (Threading t) = rapidTo (t .facing) (t .infeed .start) (t .path .start)
 home (Grooving g) = groove.outTo g (g .width .start) (g .depth .start)
+home (Drilling b) = drill.outTo b (b .start)

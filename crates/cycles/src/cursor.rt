@@ -12,6 +12,7 @@ pub enum Cursor {
     Turning(turning::cursor::Cursor),
     Threading(threading::cursor::Cursor),
     Grooving(grooving::cursor::Cursor),
+    Drilling(drilling::cursor::Cursor),
 }
 
 pub struct Handed {
@@ -28,6 +29,7 @@ pub fn open(c: Cycle) -> Cursor
         Cycle::Turning(t) => Cursor::Turning(turning::cursor::open(t)),
         Cycle::Threading(t) => Cursor::Threading(threading::cursor::open(t)),
         Cycle::Grooving(g) => Cursor::Grooving(grooving::cursor::open(g)),
+        Cycle::Drilling(b) => Cursor::Drilling(drilling::cursor::open(b)),
     }
 }
 
@@ -39,6 +41,7 @@ pub fn is_over(c: Cursor) -> bool
         Cursor::Turning(t) => turning::cursor::is_over(t),
         Cursor::Threading(t) => threading::cursor::is_over(t),
         Cursor::Grooving(g) => grooving::cursor::is_over(g),
+        Cursor::Drilling(b) => drilling::cursor::is_over(b),
     }
 }
 
@@ -73,6 +76,15 @@ pub fn next(c: Cursor) -> Handed
             Handed {
                 record,
                 rest: Cursor::Grooving(behind),
+            }
+        }
+        Cursor::Drilling(b) => {
+            let handed = drilling::cursor::next(b);
+            let record = handed.record;
+            let behind = handed.rest;
+            Handed {
+                record,
+                rest: Cursor::Drilling(behind),
             }
         }
     }

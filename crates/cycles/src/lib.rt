@@ -3,6 +3,7 @@
 pub mod cursor;
 
 use crate::cursor::Cursor;
+use drilling::bore::Bore;
 use grooving::groove::Groove;
 use settings::limits::Limits;
 use threading::thread::Thread;
@@ -18,7 +19,7 @@ ghost use Rattle.cycles.specs.Cycle.{wrong, leastFeed, records};
 ghost use Rattle.cycles.specs.Known.{Known};
 ghost use Rattle.cycles.specs.Cursor.{restOf, Sound};
 
-// "A move by G01, G84 or G86 needs 1 to 9999, by G33 10 to 9999." A thread by G85 needs what G33 does.
+// "A move by G01, G84 or G86 needs 1 to 9999, by G33 10 to 9999." A thread by G85 needs what G33 does, a bore by G87 or G88 what G84 does.
 pub const LEAST_FEED: u32 = 1;
 
 pub const LEAST_PITCH: u32 = 10;
@@ -29,9 +30,10 @@ pub enum Cycle {
     Turning(Turning),
     Threading(Thread),
     Grooving(Groove),
+    Drilling(Bore),
 }
 
-// Alarm 19: lengths, directions or tool width.
+// Alarm 19: lengths, directions, tool width or bites.
 pub fn is_wrong(c: Cycle) -> bool
     ensures { λ r. ⌜ r ≡ wrong c ⌝ }
 {
@@ -39,6 +41,7 @@ pub fn is_wrong(c: Cycle) -> bool
         Cycle::Turning(t) => turning::cycle::is_wrong(t),
         Cycle::Threading(t) => threading::thread::is_wrong(t),
         Cycle::Grooving(g) => grooving::groove::is_wrong(g),
+        Cycle::Drilling(b) => drilling::bore::is_wrong(b),
     }
 }
 
@@ -50,6 +53,7 @@ pub fn least_feed(c: Cycle) -> u32
         Cycle::Turning(_) => LEAST_FEED,
         Cycle::Threading(_) => LEAST_PITCH,
         Cycle::Grooving(_) => LEAST_FEED,
+        Cycle::Drilling(_) => LEAST_FEED,
     }
 }
 
@@ -62,6 +66,7 @@ pub fn ends_outside(c: Cycle, l: Limits) -> bool
         Cycle::Turning(t) => turning::cycle::ends_outside(t, l),
         Cycle::Threading(t) => threading::thread::ends_outside(t, l),
         Cycle::Grooving(g) => grooving::groove::ends_outside(g, l),
+        Cycle::Drilling(b) => drilling::bore::ends_outside(b, l),
     }
 }
 
@@ -74,6 +79,7 @@ pub fn record_count(c: Cycle) -> u64
         Cycle::Turning(t) => turning::cycle::record_count(t),
         Cycle::Threading(t) => threading::thread::record_count(t),
         Cycle::Grooving(g) => grooving::groove::record_count(g),
+        Cycle::Drilling(b) => drilling::bore::record_count(b),
     }
 }
 

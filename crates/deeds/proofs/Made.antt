@@ -24,11 +24,11 @@ use Rattle.grooving.specs.declared.groove.Groove.{Groove}
 use Rattle.cycles.specs.Cycle as cycle
 use Rattle.cycles.specs.Known.{home}
 use Rattle.cycles.specs.declared.Cycle as cycles
-use Rattle.cycles.specs.declared.Cycle.the-variants.{Turning, Threading, Grooving}
+use Rattle.cycles.specs.declared.Cycle.the-variants.{Turning, Threading, Grooving, Drilling}
 use Rattle.deeds.specs.declared.deed.Deed.{Deed}
 use Rattle.deeds.specs.declared.deed.Deed.the-variants.{Nothing, Nowhere, Dwell, Straight, Cycle}
 use Rattle.deeds.specs.declared.deed.Sending.{Sending}
-use Rattle.deeds.specs.Deed.{hasPath, isFacing, dWord, turningOf, xBare, zBare, emptyCuts, threadOf, grooveOf, straightIf, moveOf, deedOf}
+use Rattle.deeds.specs.Deed.{hasPath, isFacing, dWord, turningOf, xBare, zBare, emptyCuts, threadOf, grooveOf, boreOf, straightIf, moveOf, deedOf}
 use Rattle.deeds.specs.Known.{Small}
 use Rattle.deeds.specs.Known.{Known}
 
@@ -85,6 +85,10 @@ module _ (b : Block) (s : Sending) where
   unfolding grooveOf rapidTo
   groove-starts = either-of (λ (g : Groove). Starts (Cycle (Grooving g)) s) (isFacing b) _ _ (refl, refl) (refl, refl)
 
+  bore-starts : (full : Bool) → Starts (Cycle (Drilling (boreOf full b s))) s
+  unfolding boreOf
+  bore-starts full = (refl, refl)
+
   straight-starts : (g : Bool) (n : ℕ) (r : Record) → Starts (straightIf (hasPath b) g n r) s
   unfolding straightIf
   straight-starts g n r = either-of (λ (d : Deed). Starts d s) (hasPath b) _ _ tt tt
@@ -98,6 +102,8 @@ module _ (b : Block) (s : Sending) where
   starts (kept.Of motion.Turning) = turning-starts
   starts (kept.Of motion.Threading) = thread-starts
   starts (kept.Of motion.Grooving) = groove-starts
+  starts (kept.Of motion.ChipBreaking) = bore-starts false
+  starts (kept.Of motion.Redrawing) = bore-starts true
   starts kept.Nothing = either-of (λ (d : Deed). Starts d s) (hasPath b) Nowhere Nothing tt tt
 
 -- ---- that its numbers fit
@@ -131,6 +137,10 @@ module _ (b : Block) (s : Sending) (h : Sends s) where
       either-of (λ (g : Groove). Known (Cycle (Grooving g))) (isFacing b) _ _ ((h .z, h .z-target), (h .x, h .x-target), h .f, t, h .near-z, h .near-x)
       ((h .x, h .x-target), (h .z, h .z-target), h .f, t, h .near-x, h .near-z)
 
+  bore-known : (full : Bool) → dWord b 4 < 2 ^ 32 → Known (Cycle (Drilling (boreOf full b s)))
+  unfolding boreOf
+  bore-known full t = (h .x, (h .z, h .z-target), h .f, t)
+
   straight-known : (g : Bool) (n : ℕ) (r : Record) → Fitting r → Known (straightIf (hasPath b) g n r)
   unfolding straightIf
   straight-known g n r f = either-of Known (hasPath b) _ _ f tt
@@ -145,4 +155,6 @@ module _ (b : Block) (s : Sending) (h : Sends s) where
   known w (kept.Of motion.Turning) = turning-known
   known w (kept.Of motion.Threading) = thread-known w
   known w (kept.Of motion.Grooving) = groove-known (omega (arith, w .each 4 (omega arith)))
+  known w (kept.Of motion.ChipBreaking) = bore-known false (omega (arith, w .each 4 (omega arith)))
+  known w (kept.Of motion.Redrawing) = bore-known true (omega (arith, w .each 4 (omega arith)))
   known w kept.Nothing = either-of Known (hasPath b) Nowhere Nothing tt tt

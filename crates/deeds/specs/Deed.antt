@@ -4,6 +4,7 @@
 -- allowance is 2 x D0, longitudinal and facing." G86: "alongside (X before Z)", "divides its X depth with 2 x D3", "a rapid back by twice the retract", "Facing: exchange axes, .. tool width
 -- 2 x D5, overlap 200, depth piece D3, single retract."
 -- 02, G85: "(word order as G84) .. D6 is the depth per side, F the pitch. D7 counts as bits .. missing is 0. .. Empty cuts repeat the last pass D4 times, else as a new setting says".
+-- 02, G87 and G88: "Z or W is the target; the first bite is D3, each next one the former x (100 - D5) / 100 .. not under D6 .. missing D5 and D6 are 0. G87 draws back by the retract .. D4 dwells at the target".
 use mathlib.Core.Bool.{Bool, true, false, cond, _||_}
 use Prim.Native.Nat.{ℕ, _+_, _*_}
 use lib.Dec.{ltb}
@@ -15,6 +16,7 @@ use Rattle.block.specs.declared.words.Block.{Block}
 use Rattle.axes.specs.declared.axis.Axis.{Axis}
 use Rattle.grooving.specs.declared.groove.Groove.{Groove}
 use Rattle.grooving.specs.declared.groove.Way.{Way}
+use Rattle.drilling.specs.declared.bore.Bore.{Bore}
 use Rattle.acts.specs.declared.acting.Kept.{Kept}
 use Rattle.acts.specs.declared.acting.Kept.the-variants as kept
 use Rattle.moves.specs.Kinds.{rapid, feed, thread, dwell}
@@ -102,6 +104,22 @@ grooveOf b s =
     (record { facing = true; depth = zWay s; width = xWay s; tool = 2 * dWord b 5; overlap = 2 * overlap; piece = dWord b 3; back = s .retract; dwell = dWord b 4; f = s .f; g95 = s .g95 })
     (record { facing = false; depth = xWay s; width = zWay s; tool = dWord b 5; overlap = overlap; piece = 2 * dWord b 3; back = 2 * s .retract; dwell = dWord b 4; f = s .f; g95 = s .g95 })
 
+-- G87, and G88 where `full`; it goes in along Z where the tool stands on X, and the retract counts once
+unfoldable pub boreOf : Bool → Block → Sending → Bore
+boreOf full b s = record {
+  full = full;
+  x = s .x;
+  start = s .z;
+  target = s .«z_target»;
+  first = dWord b 3;
+  less = dWord b 5;
+  least = dWord b 6;
+  dwell = dWord b 4;
+  back = s .retract;
+  f = s .f;
+  g95 = s .g95;
+}
+
 -- a straight move, where there is a path word: whether it is a G00, the least F that it takes (0 where none is asked for), and its record
 unfoldable pub straightIf : Bool → Bool → ℕ → Record → Deed
 straightIf path g00 least r = cond path (deed.Straight (record { rapid = g00; least = least; goes = r })) deed.Nothing
@@ -115,6 +133,8 @@ moveOf motion.Dwell b s = deed.Dwell (dwell (s .x) (s .z) (dWord b 4))
 moveOf motion.Turning b s = deed.Cycle (cycle.Turning (turningOf b s))
 moveOf motion.Threading b s = deed.Cycle (cycle.Threading (threadOf b s))
 moveOf motion.Grooving b s = deed.Cycle (cycle.Grooving (grooveOf b s))
+moveOf motion.ChipBreaking b s = deed.Cycle (cycle.Drilling (boreOf false b s))
+moveOf motion.Redrawing b s = deed.Cycle (cycle.Drilling (boreOf true b s))
 
 -- the deed of a block, of its own motion (`blockMotion`) and not of the one it leaves kept
 unfoldable pub deedOf : Kept → Block → Sending → Deed

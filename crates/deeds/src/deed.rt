@@ -6,6 +6,7 @@ use axes::axis::Axis;
 use block::words::Block;
 use codes::meaning::Motion;
 use cycles::Cycle;
+use drilling::bore::Bore;
 use grooving::groove::Groove;
 use grooving::groove::Way;
 use moves::record::Record;
@@ -14,7 +15,7 @@ use turning::cycle::Turning;
 ghost use mathlib.Core.Path.{_≡_};
 ghost use Prim.Native.Nat.{_+_, _<_};
 ghost use Rattle.block.specs.Slots.{dSlot, codeIn};
-ghost use Rattle.deeds.specs.Deed.{hasPath, isFacing, turningOf, emptyCuts, threadOf, grooveOf, straightIf, moveOf, deedOf};
+ghost use Rattle.deeds.specs.Deed.{hasPath, isFacing, turningOf, emptyCuts, threadOf, grooveOf, boreOf, straightIf, moveOf, deedOf};
 ghost use Rattle.deeds.specs.Known.{Small};
 
 pub enum Deed {
@@ -222,6 +223,30 @@ fn groove_of(b: Block, s: Sending) -> Groove
     }
 }
 
+// A G87 block as a bore, or, where `full`, a G88 block.
+fn bore_of(full: bool, b: Block, s: Sending) -> Bore
+    requires { ⌜ Small b ⌝ }
+    ensures { λ r. ⌜ r ≡ boreOf full b s ⌝ }
+{
+    let first = d_word(b, 3);
+    let dwell = d_word(b, 4);
+    let less = d_word(b, 5);
+    let least = d_word(b, 6);
+    Bore {
+        full,
+        x: s.x,
+        start: s.z,
+        target: s.z_target,
+        first,
+        less,
+        least,
+        dwell,
+        back: s.retract,
+        f: s.f,
+        g95: s.g95,
+    }
+}
+
 // A straight move, where the block has a path word.
 fn straight_if(path: bool, rapid: bool, least: u32, goes: Record) -> Deed
     ensures { λ r. ⌜ r ≡ straightIf path rapid least goes ⌝ }
@@ -256,6 +281,8 @@ fn move_of(m: Motion, b: Block, s: Sending) -> Deed
         Motion::Turning => Deed::Cycle(Cycle::Turning(turning_of(b, s))),
         Motion::Threading => Deed::Cycle(Cycle::Threading(thread_of(b, s))),
         Motion::Grooving => Deed::Cycle(Cycle::Grooving(groove_of(b, s))),
+        Motion::ChipBreaking => Deed::Cycle(Cycle::Drilling(bore_of(false, b, s))),
+        Motion::Redrawing => Deed::Cycle(Cycle::Drilling(bore_of(true, b, s))),
     }
 }
 

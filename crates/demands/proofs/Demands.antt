@@ -41,8 +41,8 @@ count-by Returned n = refl
 -- ---- a promise P of every block that is done holds of every step of every run
 module _ (P : Task → State → Block → List Record → Type 0)
     (kept : (t : Task) (s : State) (b : Block) (left : ℕ) → alarmIn (t .table) (t .settings) s b left ≡ 0 → P t s b (doneRecords (t .table) (t .settings) s b)) where
-  record Shown (t : Task) (x : Result) : Type 0 where
-    steps : Each (λ st. P t (st .before .state) (blockOn (t .tape) (st .place)) (st .records)) (x .steps)
+  pub record Shown (t : Task) (x : Result) : Type 0 where
+    pub steps : Each (λ st. P t (st .before .state) (blockOn (t .tape) (st .place)) (st .records)) (x .steps)
 
   none-shown : (t : Task) (alarm place : ℕ) → Shown t (refused alarm place)
   unfolding Each
@@ -55,12 +55,12 @@ module _ (P : Task → State → Block → List Record → Type 0)
       let x = programRun t p mostCalls r in
       record { steps = every-step P kept t (x .steps) r (x .outcome .run) (program-leads t p mostCalls r on .linked) }
 
-  every-run : (tape : List ℕ) (table : List ℤ) (set : Settings) (bytes : ℕ) → Shown (task tape table set bytes) (interpretation tape table set bytes)
+  pub every-run : (tape : List ℕ) (table : List ℤ) (set : Settings) (bytes : ℕ) → Shown (task tape table set bytes) (interpretation tape table set bytes)
   every-run tape table set bytes =
       every-result Shown tape table set bytes (λ t alarm place _ _ _. none-shown t alarm place) (λ _ _ _ first end p on. run-shown (taskOf (take end tape) table (withPoints false set) first bytes) p on)
 
 -- what holds of each step holds of it otherwise said
-each-from : {A B : Step → ℕ → Type 0} → ((st : Step) (k : ℕ) → A st k → B st k) → (k : ℕ) (sts : List Step) → EachFrom A k sts → EachFrom B k sts
+pub each-from : {A B : Step → ℕ → Type 0} → ((st : Step) (k : ℕ) → A st k → B st k) → (k : ℕ) (sts : List Step) → EachFrom A k sts → EachFrom B k sts
 unfolding EachFrom
 each-from f k [] a = tt
 each-from f k (st ∷ sts) a = (f st k (a .0), each-from f (k + length (st .records)) sts (a .1))

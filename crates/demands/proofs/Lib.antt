@@ -13,3 +13,4 @@ pub mod Buffers
 pub mod Holding
 pub mod Standing
 pub mod Points
+pub mod Strokes

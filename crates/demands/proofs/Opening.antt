@@ -37,11 +37,12 @@ use Rattle.turning.specs.declared.cycle.Turning.{Turning}
 use Rattle.turning.proofs.Asked.{long-enough}
 use Rattle.turning.proofs.Turned.{turned}
 use Rattle.settings.specs.declared.control.Settings.{Settings}
+use Rattle.strokes.proofs.Beside.{NoFeeds}
 use Rattle.writing.specs.Writes.{oneIf, speedOf, toolOf, mOf, speedAndTool, spindleAndCoolant, done, stops, stopping, writes}
 use Rattle.verdicts.specs.Verdicts.{sendingOf, deedIn, alarmIn}
 use Rattle.machine.specs.Blocks.{doneRecords}
 use Rattle.demands.specs.Opens.{opensTurning, wantedIn}
-use Rattle.demands.proofs.Quiet.{Quiet, AllQuiet, NoFeeds, quiet-append, turned-between}
+use Rattle.demands.proofs.Quiet.{Quiet, AllQuiet, quiet-append, turned-between}
 use Rattle.verdicts.proofs.Passing.{right-in}
 
 -- ---- the deed of a G84 block is the cycle that its words ask for

@@ -11,6 +11,7 @@ use Rattle.axes.specs.Axis.{side, net}
 use Rattle.axes.specs.Goes.{inwardOf, acrossOf}
 use Rattle.turning.specs.Turned.{feedKind, passLines, eachDepth, depths, Depths, FeedsWithin, Turned}
 use Rattle.turning.specs.declared.cycle.Turning.{Turning}
+use Rattle.strokes.proofs.Beside.{NoFeeds}
 
 -- a record that is no feed and stands where the cycle starts
 pub record Quiet (c : Turning) (r : Record) : Type 0 where
@@ -21,10 +22,6 @@ pub record Quiet (c : Turning) (r : Record) : Type 0 where
 abbrev pub AllQuiet : Turning → List Record → Type 0
 AllQuiet c [] = Unit {0}
 AllQuiet c (r ∷ rs) = Quiet c r × AllQuiet c rs
-
-abbrev pub NoFeeds : List Record → Type 0
-NoFeeds [] = Unit {0}
-NoFeeds (r ∷ rs) = (r .kind ≡ feedKind → ⊥) × NoFeeds rs
 
 pub quiet-append : (c : Turning) (v w : List Record) → AllQuiet c v → AllQuiet c w → AllQuiet c (v ++ w)
 quiet-append c [] w h k = k

@@ -4,3 +4,4 @@ pub mod Steps
 pub mod Opens
 pub mod Demands
 pub mod Points
+pub mod Strokes

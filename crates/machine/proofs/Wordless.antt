@@ -42,6 +42,8 @@ keep-same (Of motion.Dwell) = refl
 keep-same (Of motion.Turning) = refl
 keep-same (Of motion.Threading) = refl
 keep-same (Of motion.Grooving) = refl
+keep-same (Of motion.ChipBreaking) = refl
+keep-same (Of motion.Redrawing) = refl
 
 or-none : (t : Bool) → (t || false) ≡ t
 or-none true = refl
@@ -77,6 +79,8 @@ none-moves (Of motion.Dwell) e x = absurd (subst IsNothing e tt)
 none-moves (Of motion.Turning) e x = absurd (subst IsNothing e tt)
 none-moves (Of motion.Threading) e x = absurd (subst IsNothing e tt)
 none-moves (Of motion.Grooving) e x = absurd (subst IsNothing e tt)
+none-moves (Of motion.ChipBreaking) e x = absurd (subst IsNothing e tt)
+none-moves (Of motion.Redrawing) e x = absurd (subst IsNothing e tt)
 
 quiet-alarm : (l : Limits) (due : Bool) (f room : ℕ) → alarmOf (asksOf deed.Nothing l) (record { «rapid_due» = due; f = f; «other_count» = 0; «room_left» = room }) ≡ 0
 unfolding asksOf alarmOf

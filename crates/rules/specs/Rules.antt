@@ -8,7 +8,7 @@ use lib.ListN.{length}
 use Rattle.acts.specs.Stands.{none, greatestBits, standsBy, isTaken}
 use Rattle.acts.specs.declared.stands.Stands.{Stands}
 use Rattle.acts.specs.declared.stands.Path.{Path}
-use Rattle.acts.specs.declared.stands.Path.the-variants.{Any, Forbidden, EachAxis}
+use Rattle.acts.specs.declared.stands.Path.the-variants.{Any, Forbidden, EachAxis, ZAlone}
 use Rattle.alarms.specs.Numbers.{badByteOrNumber, lineTooLong}
 use Rattle.block.specs.declared.words.Block.{Block}
 use Rattle.block.specs.declared.words.Head.{Head}
@@ -51,7 +51,7 @@ moreThanL b = callsOrJumps b && anyIn b (pathSlots ++ ((fSlot ∷ sSlot ∷ tSlo
 unfoldable pub callWrong : Bool → Block → Bool
 callWrong calls b = not calls && callsOrJumps b
 
--- "G04 takes no path word"; "G84 and G86 need one word of each axis"
+-- "G04 takes no path word"; "G84 and G86 need one word of each axis"; 02, G87 and G88: "X or U, no Z or W .. in 9"
 abbrev pub onX : Block → Bool
 onX b = has b xSlot || has b uSlot
 
@@ -62,6 +62,7 @@ unfoldable pub pathWrong : Path → Block → Bool
 pathWrong Any b = false
 pathWrong Forbidden b = onX b || onZ b
 pathWrong EachAxis b = not (onX b && onZ b)
+pathWrong ZAlone b = onX b || not (onZ b)
 
 -- "no other P or D": a D word that the motion does not take
 unfoldable pub isForeign : List ℕ → Block → ℕ → Bool

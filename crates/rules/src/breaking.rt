@@ -70,7 +70,7 @@ fn call_wrong(calls: bool, b: Block) -> bool
     !calls & calls_or_jumps(b)
 }
 
-// "G04 takes no path word"; "G84 and G86 need one word of each axis"
+// "G04 takes no path word"; "G84 and G86 need one word of each axis"; 02, G87 and G88: "X or U, no Z or W .. in 9"
 fn path_wrong(path: Path, b: Block) -> bool
     ensures { λ r. ⌜ r ≡ pathWrong path b ⌝ }
 {
@@ -80,6 +80,7 @@ fn path_wrong(path: Path, b: Block) -> bool
         Path::Any => false,
         Path::Forbidden => x | z,
         Path::EachAxis => !(x & z),
+        Path::ZAlone => x | !z,
     }
 }
 

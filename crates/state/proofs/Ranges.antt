@@ -3,12 +3,12 @@
 use mathlib.Core.Path.{_≡_, refl}
 use mathlib.Core.Bool.{Bool, true, false, cond, _&&_}
 use mathlib.Core.List.{List, [], _∷_}
-use Prim.Native.Nat.{ℕ, _+_, _≤_, _<_}
+use Prim.Native.Nat.{ℕ, zero, suc, _+_, _≤_, _<_}
 use native.Mathlib.Omega.{arith}
 use lib.Dec.{leb}
 use borrow.Author.Tests.{leb-true}
 use lib.IntN.{ℤ, pos, natAbs, _+ℤ_, _-ℤ_, _*ℤ_}
-use lib.ListN.{getD}
+use lib.ListN.{getD, take, drop}
 use Rattle.whole.specs.Position.{inTable}
 use Rattle.whole.proofs.Positions.{InTable}
 use Rattle.whole.proofs.Integers.{whole, add-in, sub-in, up-mul, down-mul, abs}
@@ -45,9 +45,15 @@ module _ (before : ℕ) (l : before ≤ 5) where
       go true false p q k = k
       go false b p q k = k
 
+  -- `omega` takes few rows at a time
+  both : (k : ℕ) (rs : List Row) (n : ℕ) → Shifts n (take k rs) → Shifts n (drop k rs) → Shifts n rs
+  both zero rs n a b = b
+  both (suc k) [] n a b = tt
+  both (suc k) (r ∷ rs) n a b = (a .0, both k rs n (a .1) b)
+
   shift-few : (n : ℕ) → shiftBy (gCode n) before ≤ 5
   unfolding gCode shiftBy
-  shift-few n = shifts n gRows (omega arith)
+  shift-few n = shifts n gRows (both 9 gRows n (omega arith) (omega arith))
 
   shift-after : (b : Block) (k : ℕ) → shiftBy (gIn b k) before ≤ 5
   unfolding gIn shiftBy
@@ -77,6 +83,8 @@ keep-kept (Of motion.Dwell) before e = e
 keep-kept (Of motion.Turning) before e = e
 keep-kept (Of motion.Threading) before e = e
 keep-kept (Of motion.Grooving) before e = e
+keep-kept (Of motion.ChipBreaking) before e = e
+keep-kept (Of motion.Redrawing) before e = e
 
 pub settled-sound : (s : State) (b : Block) → Sound s → Sound (settled s b)
 unfolding settled

@@ -26,7 +26,7 @@ pub record Numbers (s : State) : Type 0 where
   pub «shift_group5» : s .«shift_group5» ≤ 5
   pub correction : s .correction ≤ 99
 
--- what is known of the machine between two blocks: its motion function is one that is kept (04 84 85 86 are for their block only), the table has its shifts and its correction, and the
+-- what is known of the machine between two blocks: its motion function is one that is kept (04 and 84 to 88 are for their block only), the table has its shifts and its correction, and the
 -- axes stand in the table's range
 pub record Sound (s : State) : Type 0 where
   pub kept : keep (s .motion) Nothing ≡ s .motion

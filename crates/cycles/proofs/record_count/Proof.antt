@@ -18,6 +18,9 @@ record-count-spec =
     let is = c .before .c3 .given .1 in
     let n = known is (c .before .before .before .pre .1) in
     (right is (c .before .before .before .pre .0), n .4, n .5))
+    (λ c. search needs)
+    (λ c κs. right (c .before .c4 .given .1) (c .before .before .before .pre .0))
     (λ c. c .record-count .ensures ∙ counts (c .before .before .c .given .1))
     (λ c. c .record-count2 .ensures ∙ counts (c .before .before .c2 .given .1))
-    (λ c. c .record-count3 .ensures ∙ counts (c .before .before .c3 .given .1)))
+    (λ c. c .record-count3 .ensures ∙ counts (c .before .before .c3 .given .1))
+    (λ c. c .record-count4 .ensures ∙ counts (c .before .before .c4 .given .1)))

@@ -53,10 +53,24 @@ returns-8 c =
     let s = c .before .before .before in
     keep-by (s .before .before .args .before) (kept-is (s .now .given .1) (c .enum-told8 .given .1))
 
+returns-9 : tie.Need-returns-9
+unfolding keep
+returns-9 c =
+    let s = c .before .before .before in
+    keep-by (s .before .before .args .before) (kept-is (s .now .given .1) (c .enum-told9 .given .1))
+
+returns-10 : tie.Need-returns-10
+unfolding keep
+returns-10 c =
+    let s = c .before .before .before in
+    keep-by (s .before .before .args .before) (kept-is (s .now .given .1) (c .enum-told10 .given .1))
+
 pub keep-of-spec : {M : Type 1} → statement M
 keep-of-spec =
     tie.close
     (tie.spec
+    (λ c. search needs)
+    (λ c. search needs)
     (λ c. search needs)
     (λ c. search needs)
     (λ c. search needs)
@@ -73,4 +87,6 @@ keep-of-spec =
     returns-5
     returns-6
     returns-7
-    returns-8)
+    returns-8
+    returns-9
+    returns-10)

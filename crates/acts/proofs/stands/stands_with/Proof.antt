@@ -38,6 +38,14 @@ returns-7 : tie.Need-returns-7
 unfolding standsWith
 returns-7 c = by (c .enum-told7 .given .1)
 
+returns-8 : tie.Need-returns-8
+unfolding standsWith
+returns-8 c = c .drills-with .ensures ∙ by (c .before .enum-told8 .given .1)
+
+returns-9 : tie.Need-returns-9
+unfolding standsWith
+returns-9 c = c .drills-with2 .ensures ∙ by (c .before .enum-told9 .given .1)
+
 pub stands-with-spec : {M : Type 1} → statement M
 stands-with-spec =
     tie.close
@@ -52,10 +60,16 @@ stands-with-spec =
     (λ c. search needs)
     (λ c. search needs)
     (λ c. search needs)
+    (λ c. search needs)
+    (λ c κs. search needs)
+    (λ c. search needs)
+    (λ c κs. search needs)
     returns
     returns-2
     returns-3
     returns-4
     returns-5
     returns-6
-    returns-7)
+    returns-7
+    returns-8
+    returns-9)

@@ -5,7 +5,7 @@ use mir.Syntax.{w32}
 use mir.Val.{toZ, ofZ}
 use borrow.Author.Needs.{needs}
 use Rattle.moves.specs.Kinds.{rapid, feed, thread, dwell}
-use Rattle.cycles.specs.declared.Cycle.the-variants.{Turning, Threading, Grooving}
+use Rattle.cycles.specs.declared.Cycle.the-variants.{Turning, Threading, Grooving, Drilling}
 use Rattle.deeds.specs.declared.deed.Deed.the-variants.{Dwell, Cycle}
 use Rattle.deeds.specs.Deed.{straightIf, moveOf}
 use Rattle.deeds.proofs.Doing.{move-by}
@@ -82,6 +82,18 @@ returns-7 c =
     let a = c .before .before .before .before .args in
     (λ i. Cycle (Grooving (c .groove-of .ensures i))) ∙ move-by (a .b) (a .s) (c .before .enum-told7 .given .1)
 
+returns-8 : tie.Need-returns-8
+unfolding moveOf
+returns-8 c =
+    let a = c .before .before .before .before .args in
+    (λ i. Cycle (Drilling (c .bore-of .ensures i))) ∙ move-by (a .b) (a .s) (c .before .enum-told8 .given .1)
+
+returns-9 : tie.Need-returns-9
+unfolding moveOf
+returns-9 c =
+    let a = c .before .before .before .before .args in
+    (λ i. Cycle (Drilling (c .bore-of2 .ensures i))) ∙ move-by (a .b) (a .s) (c .before .enum-told9 .given .1)
+
 pub move-of-spec : {M : Type 1} → statement M
 move-of-spec =
     tie.close
@@ -105,10 +117,16 @@ move-of-spec =
     (λ c κs. search needs)
     (λ c. search needs)
     (λ c κs. search needs)
+    (λ c. search needs)
+    (λ c κs. search needs)
+    (λ c. search needs)
+    (λ c κs. search needs)
     returns
     returns-2
     returns-3
     returns-4
     returns-5
     returns-6
-    returns-7)
+    returns-7
+    returns-8
+    returns-9)

@@ -31,6 +31,13 @@ returns-3 c =
     let x = z .before .before in
     ap not (both (either (x .before .has .ensures) (x .has2 .ensures)) (either (z .before .has3 .ensures) (z .has4 .ensures))) ∙ by (x .before .before .args .b) (c .enum-told3 .given .1)
 
+returns-4 : tie.Need-returns-4
+unfolding pathWrong
+returns-4 c =
+    let z = c .before .before in
+    let x = z .before .before in
+    either (either (x .before .has .ensures) (x .has2 .ensures)) (ap not (either (z .before .has3 .ensures) (z .has4 .ensures))) ∙ by (x .before .before .args .b) (c .enum-told4 .given .1)
+
 pub path-wrong-spec : {M : Type 1} → statement M
 path-wrong-spec =
     tie.close
@@ -42,6 +49,8 @@ path-wrong-spec =
     (λ c. search needs)
     (λ c. search needs)
     (λ c. search needs)
+    (λ c. search needs)
     returns
     returns-2
-    returns-3)
+    returns-3
+    returns-4)
