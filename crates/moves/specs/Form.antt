@@ -24,6 +24,42 @@ recordLimit = 4_000
 abbrev pub version : ℕ
 version = 1
 
+-- "`TMV`"
+abbrev pub mark : List ℕ
+mark = 84 ∷ 77 ∷ 86 ∷ []
+
+-- where the fields of the header begin: "`TMV`, 16-bit version 1, 16-bit count, one zero"
+abbrev pub markAt : ℕ
+markAt = 0
+
+abbrev pub versionAt : ℕ
+versionAt = 3
+
+abbrev pub countAt : ℕ
+countAt = 5
+
+abbrev pub headerZeroAt : ℕ
+headerZeroAt = 7
+
+-- where the fields of a record begin: "kind; flags; two zeros; X and Z after it as signed 32-bit machine positions; unsigned 32-bit value"
+abbrev pub kindAt : ℕ
+kindAt = 0
+
+abbrev pub flagsAt : ℕ
+flagsAt = 1
+
+abbrev pub zerosAt : ℕ
+zerosAt = 2
+
+abbrev pub xAt : ℕ
+xAt = 4
+
+abbrev pub zAt : ℕ
+zAt = 8
+
+abbrev pub valueAt : ℕ
+valueAt = 12
+
 -- the place in the buffer of the first byte of record k, from 0
 abbrev pub recordStart : ℕ → ℕ
 recordStart k = headerSize + recordSize * k
@@ -34,7 +70,7 @@ roomOf bytes = min recordLimit ((bytes - headerSize) / recordSize)
 
 -- "`TMV`, 16-bit version 1, 16-bit count, one zero"
 unfoldable pub headerBytes : ℕ → List ℕ
-headerBytes n = 84 ∷ 77 ∷ 86 ∷ (littleEndian 2 version ++ (littleEndian 2 n ++ (0 ∷ [])))
+headerBytes n = mark ++ (littleEndian 2 version ++ (littleEndian 2 n ++ (0 ∷ [])))
 
 -- "kind; flags; two zeros; X and Z after it ..; unsigned 32-bit value"
 unfoldable pub recordBytes : Record → List ℕ

@@ -5,6 +5,45 @@ use Prim.Native.Nat.{ℕ}
 use lib.IntN.{ℤ}
 use Rattle.moves.specs.declared.record.Record.{Record}
 
+-- ---- their numbers, and 02's: "kinds 8 and 9 are as kind 2 with the end point, and a following record, kind 10, carries the centre" (request 4; no run writes them yet)
+abbrev pub rapidKind : ℕ
+rapidKind = 1
+
+abbrev pub feedKind : ℕ
+feedKind = 2
+
+abbrev pub threadKind : ℕ
+threadKind = 3
+
+abbrev pub dwellKind : ℕ
+dwellKind = 4
+
+abbrev pub toolKind : ℕ
+toolKind = 5
+
+abbrev pub miscellaneousKind : ℕ
+miscellaneousKind = 6
+
+abbrev pub speedKind : ℕ
+speedKind = 7
+
+abbrev pub clockwiseKind : ℕ
+clockwiseKind = 8
+
+abbrev pub counterclockwiseKind : ℕ
+counterclockwiseKind = 9
+
+abbrev pub centreKind : ℕ
+centreKind = 10
+
+-- "flag 1 for G95", "flag 2 for G96"
+abbrev pub flagG95 : ℕ
+flagG95 = 1
+
+abbrev pub flagG96 : ℕ
+flagG96 = 2
+
+-- ---- the records
 abbrev pub flagged : ℕ → ℕ → ℤ → ℤ → ℕ → Record
 flagged k f x z v = record { kind = k; flags = f; x = x; z = z; value = v }
 
@@ -12,24 +51,24 @@ abbrev pub plain : ℕ → ℤ → ℤ → ℕ → Record
 plain k x z v = flagged k 0 x z v
 
 abbrev pub rapid : ℤ → ℤ → Record
-rapid x z = plain 1 x z 0
+rapid x z = plain rapidKind x z 0
 
 -- the last: whether G95 is in force
 abbrev pub feed : ℤ → ℤ → ℕ → Bool → Record
-feed x z f g95 = flagged 2 (cond g95 1 0) x z f
+feed x z f g95 = flagged feedKind (cond g95 flagG95 0) x z f
 
 abbrev pub thread : ℤ → ℤ → ℕ → Record
-thread x z pitch = plain 3 x z pitch
+thread x z pitch = plain threadKind x z pitch
 
 abbrev pub dwell : ℤ → ℤ → ℕ → Record
-dwell x z tenths = plain 4 x z tenths
+dwell x z tenths = plain dwellKind x z tenths
 
 abbrev pub tool : ℤ → ℤ → ℕ → Record
-tool x z t = plain 5 x z t
+tool x z t = plain toolKind x z t
 
 abbrev pub miscellaneous : ℤ → ℤ → ℕ → Record
-miscellaneous x z m = plain 6 x z m
+miscellaneous x z m = plain miscellaneousKind x z m
 
 -- the last: whether G96 is in force
 abbrev pub speed : ℤ → ℤ → ℕ → Bool → Record
-speed x z s g96 = flagged 7 (cond g96 2 0) x z s
+speed x z s g96 = flagged speedKind (cond g96 flagG96 0) x z s

@@ -5,7 +5,7 @@ use Prim.Native.Nat.{ℕ, zero, suc}
 use lib.ListN.{getD, take, drop}
 use Rattle.whole.specs.Bytes.{valueOf, signedOf}
 use Rattle.moves.specs.declared.record.Record.{Record}
-use Rattle.moves.specs.Form.{headerSize, recordSize, recordStart}
+use Rattle.moves.specs.Form.{headerSize, recordSize, versionAt, countAt, kindAt, flagsAt, xAt, zAt, valueAt, recordStart}
 
 -- the number of the n bytes from place i on
 abbrev pub numberAt : List ℕ → ℕ → ℕ → ℕ
@@ -13,7 +13,7 @@ numberAt b i n = valueOf (take n (drop i b))
 
 -- the record at the front of some bytes
 unfoldable pub recordIn : List ℕ → Record
-recordIn b = record { kind = getD b 0 0; flags = getD b 1 0; x = signedOf (numberAt b 4 4); z = signedOf (numberAt b 8 4); value = numberAt b 12 4 }
+recordIn b = record { kind = getD b kindAt 0; flags = getD b flagsAt 0; x = signedOf (numberAt b xAt 4); z = signedOf (numberAt b zAt 4); value = numberAt b valueAt 4 }
 
 -- so many records, from the front of some bytes on
 unfoldable pub rowIn : ℕ → List ℕ → List Record
@@ -24,9 +24,12 @@ rowIn (suc n) b = recordIn b ∷ rowIn n (drop recordSize b)
 abbrev pub recordsIn : List ℕ → ℕ → ℕ → List Record
 recordsIn b k n = rowIn n (drop (recordStart k) b)
 
--- the count that a header gives
+-- the version and the count that a header gives
+abbrev pub versionIn : List ℕ → ℕ
+versionIn b = numberAt b versionAt 2
+
 abbrev pub countIn : List ℕ → ℕ
-countIn b = numberAt b 5 2
+countIn b = numberAt b countAt 2
 
 -- the list that a buffer holds, where its bytes begin with those of a list
 unfoldable pub listIn : List ℕ → List Record

@@ -30,10 +30,10 @@ pub fn put_record(part: &mut [u8], what: Record)
     let x = whole::bytes::bytes_of_i32(what.x);
     let z = whole::bytes::bytes_of_i32(what.z);
     let value = whole::bytes::bytes_of_u32(what.value);
-    whole::bytes::put_four(part, 0, [what.kind, what.flags, 0, 0]);
-    whole::bytes::put_four(part, 4, x);
-    whole::bytes::put_four(part, 8, z);
-    whole::bytes::put_four(part, 12, value);
+    whole::bytes::put_four(part, crate::AT_KIND, [what.kind, what.flags, 0, 0]);
+    whole::bytes::put_four(part, crate::AT_X, x);
+    whole::bytes::put_four(part, crate::AT_Z, z);
+    whole::bytes::put_four(part, crate::AT_VALUE, value);
 }
 
 // Writes record number k, from 0, of the list. (01: "written into the room after the header".)
@@ -52,6 +52,11 @@ pub fn put_header(buf: &mut [u8], count: u16)
 {
     let version = whole::bytes::bytes_of_u16(crate::VERSION);
     let records = whole::bytes::bytes_of_u16(count);
-    whole::bytes::put_four(buf, 0, [b'T', b'M', b'V', version[0]]);
-    whole::bytes::put_four(buf, 4, [version[1], records[0], records[1], 0]);
+    let mark = crate::MARK;
+    whole::bytes::put_four(buf, crate::AT_MARK, [mark[0], mark[1], mark[2], version[0]]);
+    whole::bytes::put_four(
+        buf,
+        crate::AT_VERSION + 1,
+        [version[1], records[0], records[1], 0],
+    );
 }

@@ -27,7 +27,14 @@ impl Record {
 
     pub const SPEED: u8 = 7;
 
-    // The flag of a feed record under G95.
+    // The arcs, and the record behind each that has its centre. (02, request 4. No run writes them yet.)
+    pub const CLOCKWISE: u8 = 8;
+
+    pub const COUNTERCLOCKWISE: u8 = 9;
+
+    pub const CENTRE: u8 = 10;
+
+    // The flag of a feed record, and of an arc, under G95.
     pub const FLAG_G95: u8 = 1;
 
     // The flag of a speed record under G96.
