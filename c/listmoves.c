@@ -1,7 +1,8 @@
 /* Reads a tape, from a file or from standard input, runs it through the interpreter's door and prints the list of moves, or the alarm, as `./listmoves` does: the same settings, the same
-   text and the same status, 0 for a list, 1 for an alarm, 2 where there is no tape. c/compare builds it and compares the two. */
+   text and the same status, 0 for a list, 1 for an alarm, 2 where there is no tape. With --bytes it writes the bytes of the list, for c/printlist.c. c/compare builds it and compares the two. */
 #include <inttypes.h>
 #include <stdio.h>
+#include <string.h>
 
 #include "tm02.h"
 
@@ -19,41 +20,37 @@ static const int32_t settings[TM02_SETTINGS] = {
 
 static uint8_t list[TM02_BUFFER_SIZE];
 
-static unsigned two(const uint8_t *at) { return at[0] | (unsigned)at[1] << 8; }
-
-static uint32_t four(const uint8_t *at) { return two(at) | (uint32_t)two(at + 2) << 16; }
-
-/* the number whose two's complement the four bytes are */
-static int64_t signed_four(const uint8_t *at) {
-    int64_t n = four(at);
-    return n < INT64_C(0x80000000) ? n : n - INT64_C(0x100000000);
-}
-
-static void print_list(unsigned count) {
-    printf("%.3s %u %u\n", (const char *)list + TM02_AT_MARK, two(list + TM02_AT_VERSION), two(list + TM02_AT_COUNT));
-    for (unsigned k = 0; k < count; k++) {
-        const uint8_t *record = list + TM02_HEADER_SIZE + (size_t)TM02_RECORD_SIZE * k;
-        printf("%u %u %" PRId64 " %" PRId64 " %" PRIu32 "\n", record[TM02_AT_KIND], record[TM02_AT_FLAGS],
-               signed_four(record + TM02_AT_X), signed_four(record + TM02_AT_Z), four(record + TM02_AT_VALUE));
+/* The list of a complete run is never refused: its records are read one after the other. */
+static void print_list(size_t length, unsigned count) {
+    printf("%.3s %u %u\n", (const char *)list + TM02_AT_MARK, (unsigned)TM02_VERSION, count);
+    int64_t record[TM02_READ_NUMBERS];
+    for (size_t k = 0; tm02_read_judged(list, length, k, record, TM02_READ_NUMBERS) == 0; k++) {
+        printf("%" PRId64 " %" PRId64 " %" PRId64 " %" PRId64 " %" PRId64 "\n", record[TM02_READ_KIND], record[TM02_READ_FLAGS], record[TM02_READ_X], record[TM02_READ_Z],
+               record[TM02_READ_VALUE]);
     }
 }
 
 int main(int argc, char **argv) {
-    if (argc > 2) {
-        fprintf(stderr, "usage: %s [TAPE]\n", argv[0]);
+    int bytes = argc > 1 && strcmp(argv[1], "--bytes") == 0;
+    if (argc > 2 + bytes) {
+        fprintf(stderr, "usage: %s [--bytes] [TAPE]\n", argv[0]);
         return 2;
     }
-    FILE *in = argc == 2 ? fopen(argv[1], "rb") : stdin;
+    const char *name = argc == 2 + bytes ? argv[1 + bytes] : NULL;
+    FILE *in = name != NULL ? fopen(name, "rb") : stdin;
     size_t length = in == NULL ? 0 : fread(tape, 1, sizeof tape, in);
     if (in == NULL || ferror(in)) {
-        perror(argc == 2 ? argv[1] : "standard input");
+        perror(name != NULL ? name : "standard input");
         return 2;
     }
     uint64_t answer = tm02_interpret(tape, length, table, TM02_TABLE, settings, TM02_SETTINGS, list, sizeof list);
+    size_t used = TM02_HEADER_SIZE + (size_t)TM02_RECORD_SIZE * tm02_count(answer);
     if (tm02_alarm(answer) != 0) {
         printf("ALARM %u %u %u\n", tm02_alarm(answer), tm02_place(answer), tm02_count(answer));
+    } else if (bytes) {
+        fwrite(list, 1, used, stdout);
     } else {
-        print_list(tm02_count(answer));
+        print_list(used, tm02_count(answer));
     }
     if (fflush(stdout) != 0) {
         perror("standard output");

@@ -1,7 +1,7 @@
-/* The interpreter of TM02 program tapes, as the control's firmware calls it. `rt staticlib board` writes it to target/staticlib/libboard.a; c/listmoves.c is an example.
+/* The interpreter of TM02 program tapes and the reader of its lists, as the control's firmware and the axis board call them. `rt staticlib board` writes it to target/staticlib/libboard.a; c/listmoves.c and c/printlist.c are examples.
    The archive is for x86-64 and C's System V calling convention, uses SSE registers, and needs memcpy and memset and nothing else. It has read-only data and no writable data. The
    convention lets code use the 128 bytes below the stack pointer (the red zone) without moving it, and the kit cannot be told to leave them alone. The archive of this version does not touch
-   them, and c/compare looks for it: have it look at every archive that is built, before an interrupt handler shares the stack of a running call. This file needs C99 or C++. The contract of the function stands in
+   them, and c/compare looks for it: have it look at every archive that is built, before an interrupt handler shares the stack of a running call. This file needs C99 or C++. The contracts of the functions stand in
    crates/board/src/lib.rt, docs/ALARMS.md is the alarm card. */
 #ifndef TM02_H
 #define TM02_H
@@ -47,10 +47,10 @@ enum {
 };
 
 /* Where the header's parts begin: the mark `TMV`, the version and the count in 16 bits each, a zero. Numbers are little-endian and not aligned: read them byte by byte. */
-enum { TM02_AT_MARK = 0, TM02_AT_VERSION = 3, TM02_AT_COUNT = 5 };
+enum { TM02_AT_MARK = 0, TM02_AT_VERSION = 3, TM02_AT_COUNT = 5, TM02_AT_HEADER_ZERO = 7 };
 
 /* Where a record's parts begin: a byte each for kind and flags, two zeros, then 32 bits each: the machine positions X and Z after it, signed, and a value. */
-enum { TM02_AT_KIND = 0, TM02_AT_FLAGS = 1, TM02_AT_X = 4, TM02_AT_Z = 8, TM02_AT_VALUE = 12 };
+enum { TM02_AT_KIND = 0, TM02_AT_FLAGS = 1, TM02_AT_ZEROS = 2, TM02_AT_X = 4, TM02_AT_Z = 8, TM02_AT_VALUE = 12 };
 
 /* The kinds of a record, and what its value is. */
 enum {
@@ -60,10 +60,13 @@ enum {
     TM02_DWELL = 4,         /* tenths of a second */
     TM02_TOOL = 5,          /* T */
     TM02_MISCELLANEOUS = 6, /* the number of the M word */
-    TM02_SPEED = 7          /* S */
+    TM02_SPEED = 7,         /* S */
+    TM02_CLOCKWISE = 8,     /* an arc, G02: F. No run writes 8 to 10 yet; the reader takes them. */
+    TM02_COUNTERCLOCKWISE = 9, /* an arc, G03: F */
+    TM02_CENTRE = 10        /* 0; the position is the centre of the arc before it, and nothing moves */
 };
 
-/* The flags: of a feed under G95, of a speed under G96. */
+/* The flags: of a feed or an arc under G95, of a speed under G96. */
 enum { TM02_FLAG_G95 = 1, TM02_FLAG_G96 = 2 };
 
 /* The alarms. 0 says that the list is complete; 8 is not used. */
@@ -109,6 +112,39 @@ uint64_t tm02_interpret(const uint8_t *tape, size_t tape_len, const int32_t *tab
 static inline unsigned tm02_count(uint64_t answer) { return (unsigned)(answer & 0xffff); }
 static inline unsigned tm02_place(uint64_t answer) { return (unsigned)(answer >> 16 & 0xffff); }
 static inline unsigned tm02_alarm(uint64_t answer) { return (unsigned)(answer >> 32 & 0xff); }
+
+/* A record that is read back, as so many numbers, and where each stands. A list of version 1 has no program and block, and both are TM02_NONE. */
+enum {
+    TM02_READ_KIND,
+    TM02_READ_FLAGS,
+    TM02_READ_X,
+    TM02_READ_Z,
+    TM02_READ_VALUE,
+    TM02_READ_PROGRAM,
+    TM02_READ_BLOCK,
+    TM02_READ_NUMBERS
+};
+enum { TM02_NONE = -1 };
+
+/* Why a list, or k, is refused, in the order in which it is asked. 0 says that it is not. */
+enum {
+    TM02_REFUSED_BAD_MARK = 1,    /* another mark, or under 8 bytes */
+    TM02_REFUSED_BAD_VERSION = 2,
+    TM02_REFUSED_BAD_LENGTH = 3,  /* another length than the count's, a count above the limit, or the header's last byte not 0 */
+    TM02_REFUSED_BAD_RECORD = 4,  /* any record: kind, flags, position, spare bytes, or a kind 10 missing behind 8 or 9, or elsewhere */
+    TM02_REFUSED_BAD_INDEX = 5,   /* k is not below the count */
+    TM02_REFUSED_TOO_FEW_NUMBERS = 6
+};
+
+/* Reads record k, from 0, of any bytes: 0 and its numbers, or why they are refused, and then the lent numbers are as they came. The whole list is judged at every call.
+   The caller owes what C cannot check, as above: no pointer is null, each points to as many elements as its length says, record is aligned as int64_t, the two do not overlap, and nothing
+   else writes to them during the call. A list of a run that was complete is never refused: give the first TM02_HEADER_SIZE + TM02_RECORD_SIZE * tm02_count(answer) bytes of the buffer. */
+uint32_t tm02_read(const uint8_t *list, size_t list_len, size_t k, int64_t *record, size_t record_len);
+
+/* A whole list in one pass: judge it once, 0 or 1 to 4, and then read its records one after the other, until 5 says that there are no more. tm02_read_judged does not judge: of a list that was
+   not refused it gives what tm02_read gives, and of other bytes what stands there. */
+uint32_t tm02_judge(const uint8_t *list, size_t list_len);
+uint32_t tm02_read_judged(const uint8_t *list, size_t list_len, size_t k, int64_t *record, size_t record_len);
 
 #ifdef __cplusplus
 }

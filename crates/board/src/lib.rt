@@ -1,9 +1,12 @@
-// THE BOARD'S DOOR: the one function that the control's firmware, which is written in C, calls. include/tm02.h declares it for C.
+// THE BOARD'S DOORS: what the control's firmware and the axis board, which are written in C, call. include/tm02.h declares them for C.
+// `tm02_interpret` runs a tape; `tm02_read` reads a record of a list back, and `tm02_judge` with `tm02_read_judged` a whole list in one pass.
 // Settings come as eleven numbers and the answer goes as one. No caller has to check a number first: settings that are not eleven numbers, or of which one is out of range, are alarm 1.
 use answers::Answer;
 ghost use mathlib.Core.Path.{_≡_};
 ghost use Prim.Native.Nat.{_+_, _*_, _<_};
 ghost use lib.ListN.{length};
+ghost use Rattle.readback.specs.Lists.{judged, readOf, readJudged};
+ghost use Rattle.readback.specs.Numbers.{refusalOf, answerOf, numbersAfter};
 ghost use Rattle.board.specs.Door.{answerAt, bufferAt, Fits, Packed};
 
 // Alarm, place and count as one number.
@@ -45,4 +48,30 @@ pub extern "C" fn tm02_interpret(
         buf,
     );
     packed_answer(answer)
+}
+
+// Record number k, from 0, of a list, as seven numbers: kind, flags, X, Z, value, program, block. Answers 0, or why the list or k is refused, and then the lent numbers are as they came.
+#[no_mangle]
+pub extern "C" fn tm02_read(list: &[u8], k: usize, numbers: &mut [i64]) -> u32
+    ensures result { λ r. ⌜ r ≡ answerOf (readOf (now (list .entry)) k) (length (now (numbers .entry))) ⌝ }
+    ensures lent { λ _. ⌜ now (numbers .exit) ≡ numbersAfter (readOf (now (list .entry)) k) (now (numbers .entry)) ⌝ }
+{
+    readback::numbered::read(list, k, numbers)
+}
+
+// Whether a list is refused: 0, or why.
+#[no_mangle]
+pub extern "C" fn tm02_judge(list: &[u8]) -> u32
+    ensures { λ r. ⌜ r ≡ refusalOf (judged (now (list .entry))) ⌝ }
+{
+    readback::numbered::judge(list)
+}
+
+// As `tm02_read`, of a list that `tm02_judge` has not refused, and which is not judged again. Of other bytes it gives what stands there.
+#[no_mangle]
+pub extern "C" fn tm02_read_judged(list: &[u8], k: usize, numbers: &mut [i64]) -> u32
+    ensures result { λ r. ⌜ r ≡ answerOf (readJudged (now (list .entry)) k) (length (now (numbers .entry))) ⌝ }
+    ensures lent { λ _. ⌜ now (numbers .exit) ≡ numbersAfter (readJudged (now (list .entry)) k) (now (numbers .entry)) ⌝ }
+{
+    readback::numbered::read_judged(list, k, numbers)
 }

@@ -1,11 +1,11 @@
 -- The lines of a listing, word by word: each has room where the longest line has, and together they are the line.
 -- Assumes nothing.
-use mathlib.Core.Path.{_≡_, refl, sym, ap, _∙_, subst}
+use mathlib.Core.Path.{_≡_, refl, sym, ap, subst}
 use mathlib.Core.List.{List, [], _∷_, _++_}
 use Prim.Native.Nat.{ℕ, _+_, _*_, _-_, _^_, _<_, _≤_}
 use native.Mathlib.Omega.{arith}
 use borrow.Author.Tests.{le-leb, lt-leb}
-use lib.ListN.{length, take, drop}
+use lib.ListN.{length, drop}
 use Rattle.whole.specs.Bytes.{laid}
 use Rattle.moves.specs.Form.{version, recordStart, roomOf, Fitting}
 use Rattle.moves.specs.Reading.{recordIn, recordsIn}
@@ -19,7 +19,7 @@ use Rattle.decimal.specs.Wrote.{Wrote}
 use Rattle.decimal.proofs.Writing.{Going, begin, next, ended, nothing-wrote, wrote-as, behind, two-first, two-second, two}
 use Rattle.listing.specs.Listing.{line, headLine, recordLine, recordLines, alarmLine, listingOf, longestHead, longestRecordLine, longestAlarm, isMade, textOf}
 use Rattle.listing.proofs.Lengths.{short-head, short-line, short-alarm}
-use Rattle.listing.proofs.Reading.{part-is, lines-left, no-lines-left}
+use Rattle.listing.proofs.Reading.{lines-left, no-lines-left}
 
 -- ---- a word of a line, and the others behind it
 module _ (b : List ℕ) (at : ℕ) (w v : List ℕ) (vs : List (List ℕ)) (fits : at + length (line w (v ∷ vs)) ≤ length b) where
@@ -169,10 +169,10 @@ records-begin b at list count h =
     subst (λ (n : ℕ). Going b at (recordLines (recordsIn list 0 count)) b at (recordLines (recordsIn list 0 n))) e (begin b at (recordLines (recordsIn list 0 count)) h)
 
 module _ {b : List ℕ} {at : ℕ} {all c : List ℕ} {m : ℕ} (list : List ℕ) (k count : ℕ) (g : Going b at all c m (recordLines (recordsIn list k (count - k)))) where
-  pub record-next : k < count → m + longestRecordLine ≤ length c → {what : Record} → what ≡ recordIn (take (length list - recordStart k) (drop (recordStart k) list))
+  pub record-next : k < count → m + longestRecordLine ≤ length c → {what : Record} → what ≡ recordIn (drop (recordStart k) list)
       → {n : ℕ} {e : List ℕ} → Wrote c m (recordLine what) n e → n ≤ m + longestRecordLine → Going b at all e n (recordLines (recordsIn list (k + 1) (count - (k + 1))))
   record-next h room {what} is {n} {e} w short =
-      let here : recordLine what ≡ recordLine (recordIn (drop (recordStart k) list)) = ap recordLine (is ∙ ap recordIn (part-is list (recordStart k))) in
+      let here : recordLine what ≡ recordLine (recordIn (drop (recordStart k) list)) = ap recordLine is in
       let one = wrote-as here w in
       next (recordLine (recordIn (drop (recordStart k) list))) (rw (lines-left list k count h) at g) (omega (arith, one .place, short, room)) one
 

@@ -39,7 +39,7 @@ fn put_record(out: &mut [u8], at: usize, what: Record) -> usize
     put_number(out, value, what.value as usize, LINE_FEED)
 }
 
-// A line for each of the first so many records of a list.
+// A line for each of the first so many records of a list. What is listed is what stands in the buffer, not what the run meant to write there; it is read by the reader's function.
 fn put_records(list: &[u8], count: usize, out: &mut [u8], at: usize) -> usize
     requires { ⌜ (count ≤ roomOf (length (now list))) × (at + longestRecordLine * count ≤ length (now out)) ⌝ }
     ensures written { λ r. ⌜ Wrote (now (out .entry)) at (recordLines (recordsIn (now (list .entry)) 0 count)) r (now (out .exit)) ⌝ }
@@ -48,8 +48,7 @@ fn put_records(list: &[u8], count: usize, out: &mut [u8], at: usize) -> usize
     let mut next = at;
     let mut k = 0;
     while k < count {
-        let first = moves::HEADER_SIZE + moves::RECORD_SIZE * k;
-        let what = crate::record::record_in(&list[first..]);
+        let what = readback::record::record_at(list, k);
         next = put_record(out, next, what);
         k += 1;
     }

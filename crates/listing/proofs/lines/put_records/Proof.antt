@@ -27,37 +27,22 @@ loop-holds c = (omega arith, omega arith, let s = c .before .before in records-b
 lies : (c : tie.In-loop Inv-loop μ-loop) → recordStart (c .before .loop .k) + recordSize ≤ length (c .before .before .before .before .args .list .now)
 lies c = let s = c .before .before .before .before in held _ (s .args .count) (c .before .loop .k) (s .pre .0) (omega arith)
 
-mul-first : tie.Need-mul-first Inv-loop μ-loop
-mul-first c = let l = lies c in search needs
-
-add-first : tie.Need-add-first Inv-loop μ-loop
-add-first c = let l = lies c in search needs
-
-sub-record-in : tie.Need-sub-record-in Inv-loop μ-loop
-sub-record-in c = let l = lies c in search needs
-
-part-record-in-start : tie.Need-part-record-in-start Inv-loop μ-loop
-part-record-in-start c = let l = lies c in search needs
-
-part-record-in-end : tie.Need-part-record-in-end Inv-loop μ-loop
-part-record-in-end c = let l = lies c in search needs
-
-record-in-requires : tie.Need-record-in-requires Inv-loop μ-loop
-record-in-requires c κs = let l = lies (c .before) in search needs
+record-at-requires : tie.Need-record-at-requires Inv-loop μ-loop
+record-at-requires c κs = lies c
 
 put-record-requires : tie.Need-put-record-requires Inv-loop μ-loop
-put-record-requires c κs = let l = c .before .before .before .before in omega (arith, kept (l .loop .inv .2))
+put-record-requires c κs = let l = c .before .before .before in omega (arith, kept (l .loop .inv .2))
 
 loop-again : tie.Need-loop-again Inv-loop μ-loop
 loop-again c =
     let p = c .before .before in
     let r = p .before .before in
-    let l = r .before .before .before in
+    let l = r .before .before in
     let s = l .before .before .before in (
       omega arith,
       omega (arith, p .put-record .ensures .1),
       record-next (s .args .list .now) (l .loop .k) (s .args .count) (l .loop .inv .2) (omega arith)
-          (omega (arith, kept (l .loop .inv .2))) (r .record-in .ensures) (p .put-record .ensures .0) (p .put-record .ensures .1),
+          (omega (arith, kept (l .loop .inv .2))) (r .record-at .ensures) (p .put-record .ensures .0) (p .put-record .ensures .1),
     )
 
 same-length : tie.Need-same-length Inv-loop μ-loop
@@ -73,12 +58,7 @@ put-records-spec =
     Inv-loop
     μ-loop
     loop-holds
-    mul-first
-    add-first
-    sub-record-in
-    part-record-in-start
-    part-record-in-end
-    record-in-requires
+    record-at-requires
     put-record-requires
     (λ c. search needs)
     (λ c. search needs)

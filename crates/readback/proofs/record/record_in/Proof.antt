@@ -1,4 +1,4 @@
--- `listing::record::record_in` meets its contract.
+-- `readback::record::record_in` meets its contract.
 use mathlib.Core.Path.{_≡_, ap, _∙_}
 use lib.ListN.{getD}
 use mir.Syntax.{w32}
@@ -7,8 +7,8 @@ use borrow.Author.Needs.{needs}
 use Rattle.whole.specs.Bytes.{valueOf, signedOf}
 use Rattle.moves.specs.Kinds.{flagged}
 use Rattle.moves.specs.Reading.{recordIn}
-use Rattle.listing.proofs.record.record_in.Statement.{statement}
-use Rattle.listing.proofs.record.record_in.Tie as tie
+use Rattle.readback.proofs.record.record_in.Statement.{statement}
+use Rattle.readback.proofs.record.record_in.Tie as tie
 
 returns : tie.Need-returns
 unfolding recordIn

@@ -1,8 +1,8 @@
--- `listing::record::four_at` meets its contract.
+-- `readback::record::four_at` meets its contract.
 use borrow.Author.Needs.{needs}
-use Rattle.listing.proofs.Reading.{four-taken}
-use Rattle.listing.proofs.record.four_at.Statement.{statement}
-use Rattle.listing.proofs.record.four_at.Tie as tie
+use Rattle.readback.proofs.Taking.{four-taken}
+use Rattle.readback.proofs.record.four_at.Statement.{statement}
+use Rattle.readback.proofs.record.four_at.Tie as tie
 
 returns : tie.Need-returns
 returns c = let s = c .before .before .before .before in four-taken (s .args .part .now) (s .args .at) (s .pre)

@@ -1,0 +1,2 @@
+-- The statement of this crate.
+pub mod Readable

@@ -1,0 +1,27 @@
+-- EVERY LIST THAT A RUN WRITES IS READ BACK. 02, request 6: "Reading what the writer wrote gives its records", of every tape, table, settings and buffer: where the answer is a list, its bytes are
+-- in the written form, so that no reader refuses it, and each k gives that record of the run.
+use mathlib.Core.Path.{_≡_}
+use mathlib.Core.List.{List}
+use Prim.Native.Nat.{ℕ}
+use lib.IntN.{ℤ}
+use lib.ListN.{length, take}
+use Rattle.moves.specs.Form.{recordStart}
+use Rattle.moves.specs.declared.record.Record.{Record}
+use Rattle.readback.specs.Laws.{WrittenForm, ReadsBack}
+use Rattle.settings.specs.declared.control.Settings.{Settings}
+use Rattle.runners.specs.Runs.{recordsOf}
+use Rattle.answers.specs.declared.Answer.the-variants.{Complete}
+use Rattle.interpreter.specs.Answers.{interpretation, answerOf, bufferOf}
+
+-- the list at the front of the buffer after a run, of so many records
+abbrev pub listAfter : List ℕ → List ℤ → Settings → List ℕ → ℕ → List ℕ
+listAfter tape table set b count = take (recordStart count) (bufferOf tape table set b)
+
+-- the records of the run
+abbrev pub recordsRun : List ℕ → List ℤ → Settings → List ℕ → List Record
+recordsRun tape table set b = recordsOf (interpretation tape table set (length b) .steps)
+
+abbrev pub ListIsRead : List ℕ → List ℤ → Settings → List ℕ → Type 0
+ListIsRead tape table set b =
+    (count : ℕ) → answerOf tape table set (length b) ≡ Complete count
+    → WrittenForm (listAfter tape table set b count) (recordsRun tape table set b) × ReadsBack (listAfter tape table set b count) (recordsRun tape table set b)

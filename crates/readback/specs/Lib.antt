@@ -1,0 +1,6 @@
+-- The definitions that the contracts of this crate cite, and those of the crates built on it.
+pub mod Right
+pub mod Refusals
+pub mod Lists
+pub mod Numbers
+pub mod Laws
