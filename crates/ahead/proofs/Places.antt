@@ -18,8 +18,8 @@ use Rattle.finding.specs.declared.Here.{Here}
 use Rattle.finding.specs.declared.Here.the-variants as here
 use Rattle.finding.specs.declared.Sought.{Sought}
 use Rattle.finding.specs.declared.Sought.the-variants.{Program, Block as OfNumber, AnyBlock}
-use Rattle.finding.specs.declared.Found.{Found}
-use Rattle.finding.specs.declared.Found.the-variants.{At, Nowhere}
+use Rattle.places.specs.declared.Found.{Found}
+use Rattle.places.specs.declared.Found.the-variants.{At, Nowhere}
 use Rattle.state.specs.declared.request.Request.{Request}
 use Rattle.state.specs.declared.request.Request.the-variants as next
 use Rattle.ahead.specs.Ahead.{mostCalls, calledAt, jumpedTo, lookedUp}
@@ -73,16 +73,16 @@ first-on tape p = sought-on AnyBlock tape p
 -- ---- what it asks for: places on the tape, or one of 01's alarms
 abbrev pub OnwardOn : ℕ → Onward → Type 0
 OnwardOn n On = Unit {0}
-OnwardOn n (Call p times) = p < n
+OnwardOn n (Call p times) = p .line < n
 OnwardOn n (Jump p) = p < n
 OnwardOn n Return = Unit {0}
 OnwardOn n End = Unit {0}
 OnwardOn n (Stop alarm place) = IsAlarm false alarm
 
-called-on : (n : ℕ) (f : Found) (r : Frame) (times : ℕ) → FoundIn n f → OnwardOn n (calledAt f r times)
+called-on : (n : ℕ) (f : Found) (k : ℕ) (r : Frame) (times : ℕ) → FoundIn n f → OnwardOn n (calledAt f k r times)
 unfolding calledAt
-called-on n Nowhere r times h = refl
-called-on n (At p) r times h = cond-ind (OnwardOn n) (eqb (r .«calls_left») 0) _ (Call p times) (λ _. refl) h
+called-on n Nowhere k r times h = refl
+called-on n (At p) k r times h = cond-ind (OnwardOn n) (eqb (r .«calls_left») 0) _ (Call (record { number = k; line = p }) times) (λ _. refl) h
 
 jumped-on : (n : ℕ) (f : Found) (r : Frame) → FoundIn n f → OnwardOn n (jumpedTo f r)
 unfolding jumpedTo
@@ -94,7 +94,7 @@ unfolding lookedUp
 looked-on tape set first r next.On = tt
 looked-on tape set first r (next.Call n times) =
     let f = findProgram n (lines tape first) in
-    cond-ind (OnwardOn (length tape)) (ltb n (set .«lowest_subroutine») || ltb highestSubroutine n) _ (calledAt f r times) (λ _. refl) (called-on (length tape) f r times (program-on n tape first))
-looked-on tape set first r (next.Jump n) = jumped-on (length tape) (blockOfProgram n tape (r .program)) r (block-on n tape (r .program))
+    cond-ind (OnwardOn (length tape)) (ltb n (set .«lowest_subroutine») || ltb highestSubroutine n) _ (calledAt f n r times) (λ _. refl) (called-on (length tape) f n r times (program-on n tape first))
+looked-on tape set first r (next.Jump n) = jumped-on (length tape) (blockOfProgram n tape (r .program .line)) r (block-on n tape (r .program .line))
 looked-on tape set first r next.Return = cond-ind (OnwardOn (length tape)) (eqb (r .«calls_left») mostCalls) _ Return (λ _. refl) tt
 looked-on tape set first r next.End = cond-ind (OnwardOn (length tape)) (eqb (r .«calls_left») mostCalls) End _ (λ _. tt) refl

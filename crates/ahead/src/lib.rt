@@ -1,5 +1,5 @@
 // What lies ahead of a block: the places that a call or a jump asks for.
-use finding::Found;
+use places::Found;
 use settings::control::Settings;
 use state::request::Request;
 ghost use mathlib.Core.Path.{_≡_};
@@ -10,35 +10,41 @@ ghost use Rattle.ahead.specs.Ahead.{calledAt, jumpedTo, lookedUp};
 // "At most ten calls deep": the calls that are left in the main program.
 pub const MOST_CALLS: u32 = 10;
 
-// Where a run is: in the program whose line stands at `program`, with so many calls left, at a place of the tape.
+// A program of the tape: its number, and the place of its line.
+pub struct ProgramAt {
+    pub number: u32,
+    pub line: usize,
+}
+
+// Where a run is: in a program, with so many calls left, at a place of the tape.
 pub struct Frame {
-    pub program: usize,
+    pub program: ProgramAt,
     pub calls_left: u32,
     pub at: usize,
 }
 
-// Where the run goes on after a block, with the places on the tape: the line of the program that is called and how often it runs, the line of the block that is jumped to; or
-// an alarm with its place.
+// Where the run goes on after a block, with the places on the tape: the program that is called and how often it runs, the line of the block that is jumped to; or an alarm with its
+// place.
 pub enum Onward {
     On,
-    Call(usize, u32),
+    Call(ProgramAt, u32),
     Jump(usize),
     Return,
     End,
     Stop(u8, usize),
 }
 
-// The call of a program that was looked for, by the block at the frame's place.
-fn called_at(found: Found, frame: Frame, times: u32) -> Onward
-    ensures { λ r. ⌜ r ≡ calledAt found frame times ⌝ }
+// The call of the program of a number, which was looked for, by the block at the frame's place.
+fn called_at(found: Found, number: u32, frame: Frame, times: u32) -> Onward
+    ensures { λ r. ⌜ r ≡ calledAt found number frame times ⌝ }
 {
     match found {
         Found::Nowhere => Onward::Stop(alarms::PROGRAM_MISSING, frame.at),
-        Found::At(p) => {
+        Found::At(line) => {
             if frame.calls_left == 0 {
                 return Onward::Stop(alarms::TOO_DEEP, frame.at);
             }
-            Onward::Call(p, times)
+            Onward::Call(ProgramAt { number, line }, times)
         }
     }
 }
@@ -55,7 +61,7 @@ fn jumped_to(found: Found, frame: Frame) -> Onward
 
 // What the block at the frame's place asks for: alarms 14, 10, 11 and 12.
 pub fn look_up(tape: &[u8], set: Settings, first: usize, frame: Frame, next: Request) -> Onward
-    requires { ⌜ (first ≤ length (now tape)) × (frame .program ≤ length (now tape)) ⌝ }
+    requires { ⌜ (first ≤ length (now tape)) × (frame .program .line ≤ length (now tape)) ⌝ }
     ensures { λ r. ⌜ r ≡ lookedUp (now (tape .entry)) set first frame next ⌝ }
 {
     match next {
@@ -65,10 +71,11 @@ pub fn look_up(tape: &[u8], set: Settings, first: usize, frame: Frame, next: Req
                 return Onward::Stop(alarms::PROGRAM_MISSING, frame.at);
             }
             let found = finding::find_program(tape, first, n);
-            called_at(found, frame, times)
+            called_at(found, n, frame, times)
         }
         Request::Jump(n) => {
-            let found = finding::find_block(tape, frame.program, n);
+            let program = frame.program;
+            let found = finding::find_block(tape, program.line, n);
             jumped_to(found, frame)
         }
         Request::Return => {

@@ -19,8 +19,8 @@ use Rattle.reading.specs.Reading.{nothingRead, readLines, readOf}
 use Rattle.reading.specs.declared.read.Read.{Read}
 use Rattle.reading.specs.declared.read.Read.the-variants as read
 use Rattle.finding.specs.Finding.{findProgram}
-use Rattle.finding.specs.declared.Found.{Found}
-use Rattle.finding.specs.declared.Found.the-variants.{At, Nowhere}
+use Rattle.places.specs.declared.Found.{Found}
+use Rattle.places.specs.declared.Found.the-variants.{At, Nowhere}
 use Rattle.ahead.specs.Ahead.{mostCalls}
 use Rattle.steps.specs.Steps.{Task, Step}
 use Rattle.steps.specs.declared.step.Run.{Run}
@@ -30,7 +30,7 @@ use Rattle.runners.specs.declared.run.Ending.the-variants.{Returned, Ended, Sto
 use Rattle.answers.specs.Answers.{answerBy, startOf}
 use Rattle.answers.specs.declared.Answer.{Answer}
 use Rattle.answers.specs.declared.Answer.the-variants.{Complete, Alarm}
-use Rattle.interpreter.specs.Answers.{Result, refused, resultOf, mainBy, mainRun, readThen, longestTape, interpretation}
+use Rattle.interpreter.specs.Answers.{Result, mainAt, refused, resultOf, mainBy, mainRun, readThen, longestTape, interpretation}
 use Rattle.alarmed.specs.Order.{Passes, none, no, Refused, yes, later}
 use Rattle.alarmed.specs.Tests.{Input, settingsBad, tooLong, tooShort, unopened, inputOrder}
 use Rattle.alarmed.specs.Walking.{Standing, standing, Walk, RunRefused}
@@ -68,17 +68,17 @@ module _ (i : Input) where
 
     module _ (p : ℕ) (found : mainIn i end ≡ At p) where
       abbrev x : Ran
-      x = programRun t p mostCalls (startOf (i .settings))
+      x = programRun t (mainAt (t .settings) p) mostCalls (startOf (i .settings))
 
       by-ending : (h : Ending) → x .outcome .ending ≡ h → CameTo t (begins i end p) [] (x .steps) (x .outcome .run) h → Stands i (answerBy h (x .outcome .run .count)) (x .steps)
       unfolding answerBy
-      by-ending Returned e c = absurd (never-returns t p (startOf (i .settings)) e)
+      by-ending Returned e c = absurd (never-returns t (mainAt (t .settings) p) (startOf (i .settings)) e)
       by-ending Ended e c = list well to found c refl
       by-ending (Stopped alarm place) e c = run well to found (c .walk) (c .refused)
 
       run-stands : On (resultOf x)
       unfolding resultOf
-      run-stands = by-ending (x .outcome .ending) refl (program-walks t p (startOf (i .settings)) (omega arith))
+      run-stands = by-ending (x .outcome .ending) refl (program-walks t (mainAt (t .settings) p) (startOf (i .settings)) (omega arith))
 
     main-stands : (g : Found) → mainIn i end ≡ g → On (mainBy t g)
     unfolding mainBy

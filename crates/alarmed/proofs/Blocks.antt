@@ -22,8 +22,8 @@ use Rattle.acts.specs.declared.acting.Kept.{Kept}
 use Rattle.acts.specs.declared.acting.Kept.the-variants as kept
 use Rattle.block.specs.declared.words.Block.{Block}
 use Rattle.finding.specs.Finding.{findProgram, blockOfProgram}
-use Rattle.finding.specs.declared.Found.{Found}
-use Rattle.finding.specs.declared.Found.the-variants.{At, Nowhere}
+use Rattle.places.specs.declared.Found.{Found}
+use Rattle.places.specs.declared.Found.the-variants.{At, Nowhere}
 use Rattle.axes.specs.Limits.{anyOutside}
 use Rattle.cycles.specs.Cycle as cycle
 use Rattle.cycles.specs.declared.Cycle as cycles
@@ -45,6 +45,7 @@ use Rattle.verdicts.specs.Verdicts.{sendingOf, deedIn, asksIn, askedIn, alarmIn
 use Rattle.machine.specs.Blocks.{doneRecords}
 use Rattle.ahead.specs.Ahead.{mostCalls, calledAt, jumpedTo, lookedUp}
 use Rattle.ahead.specs.declared.Frame.{Frame}
+use Rattle.ahead.specs.declared.ProgramAt.{ProgramAt}
 use Rattle.ahead.specs.declared.Onward.{Onward}
 use Rattle.ahead.specs.declared.Onward.the-variants.{On, Call, Jump, Return, End, Stop}
 use Rattle.steps.specs.Steps.{Task, blockOn, onwardBy, onwardOf, alarmBy, alarmAt}
@@ -170,23 +171,23 @@ module _ (t : Task) (f : Frame) (deep : ℕ) (known : deep + f .«calls_left» �
   abbrev askedFirst : Request → ℕ
   askedFirst q =
       cond (endsBadly (eqb deep 0) q) wrongEnd
-      (cond (calls t q) programMissing (cond (jumps (t .tape) (f .program) q) blockMissing (cond (deepens q && leb mostCalls deep) tooDeep own)))
+      (cond (calls t q) programMissing (cond (jumps (t .tape) (f .program .line) q) blockMissing (cond (deepens q && leb mostCalls deep) tooDeep own)))
 
-  deep-first : (last : Bool) (p times : ℕ) → cond last tooDeep own ≡ else (cond last (Stop tooDeep (f .at)) (Call p times))
+  deep-first : (last : Bool) (p : ProgramAt) (times : ℕ) → cond last tooDeep own ≡ else (cond last (Stop tooDeep (f .at)) (Call p times))
   unfolding alarmBy
   deep-first true p times = refl
   deep-first false p times = refl
 
-  called-first : (g : Found) (times : ℕ) → cond (nowhere g) programMissing (cond (leb mostCalls deep) tooDeep own) ≡ else (calledAt g f times)
+  called-first : (g : Found) (n times : ℕ) → cond (nowhere g) programMissing (cond (leb mostCalls deep) tooDeep own) ≡ else (calledAt g n f times)
   unfolding nowhere calledAt alarmBy
-  called-first Nowhere times = refl
-  called-first (At p) times = ap (λ (b : Bool). cond b tooDeep own) (sym last-is) ∙ deep-first (eqb (f .«calls_left») 0) p times
+  called-first Nowhere n times = refl
+  called-first (At p) n times = ap (λ (b : Bool). cond b tooDeep own) (sym last-is) ∙ deep-first (eqb (f .«calls_left») 0) (record { number = n; line = p }) times
 
-  call-first : (out : Bool) (g : Found) (times : ℕ) → cond (out || nowhere g) programMissing (cond (leb mostCalls deep) tooDeep own)
-      ≡ else (cond out (Stop programMissing (f .at)) (calledAt g f times))
+  call-first : (out : Bool) (g : Found) (n times : ℕ) → cond (out || nowhere g) programMissing (cond (leb mostCalls deep) tooDeep own)
+      ≡ else (cond out (Stop programMissing (f .at)) (calledAt g n f times))
   unfolding alarmBy
-  call-first true g times = refl
-  call-first false g times = called-first g times
+  call-first true g n times = refl
+  call-first false g n times = called-first g n times
 
   jump-first : (g : Found) → cond (nowhere g) blockMissing own ≡ else (jumpedTo g f)
   unfolding nowhere jumpedTo alarmBy
@@ -206,8 +207,8 @@ module _ (t : Task) (f : Frame) (deep : ℕ) (known : deep + f .«calls_left» �
   looked-first : (q : Request) → askedFirst q ≡ else (lookedUp (t .tape) (t .settings) (t .first) f q)
   unfolding endsBadly calls jumps deepens lookedUp alarmBy
   looked-first asks.On = refl
-  looked-first (asks.Call n times) = call-first (ltb n (t .settings .«lowest_subroutine») || ltb highestSubroutine n) (findProgram n (lines (t .tape) (t .first))) times
-  looked-first (asks.Jump n) = jump-first (blockOfProgram n (t .tape) (f .program))
+  looked-first (asks.Call n times) = call-first (ltb n (t .settings .«lowest_subroutine») || ltb highestSubroutine n) (findProgram n (lines (t .tape) (t .first))) n times
+  looked-first (asks.Jump n) = jump-first (blockOfProgram n (t .tape) (f .program .line))
   looked-first asks.Return = ap (λ (b : Bool). cond b wrongEnd own) (sym main-is) ∙ return-first (eqb (f .«calls_left») mostCalls)
   looked-first asks.End = ap (λ (b : Bool). cond (not b) wrongEnd own) (sym main-is) ∙ end-first (eqb (f .«calls_left») mostCalls)
 
@@ -222,7 +223,7 @@ above = refl
 -- ---- the block at the frame's place
 module _ (t : Task) (f : Frame) (deep : ℕ) (known : deep + f .«calls_left» ≡ mostCalls) (r : Run) where
   abbrev here : Begun
-  here = record { task = t; program = f .program; deep = deep; place = f .at; run = r }
+  here = record { task = t; program = f .program .line; deep = deep; place = f .at; run = r }
 
   abbrev b : Block
   b = blockOn (t .tape) (f .at)

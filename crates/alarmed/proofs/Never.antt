@@ -11,13 +11,14 @@ use Rattle.alarms.specs.Numbers.{tooManyBegun, tooDeep, programMissing, wrongEn
 use Rattle.tape.specs.Lines.{lines}
 use Rattle.settings.specs.Wrong.{highestSubroutine}
 use Rattle.finding.specs.Finding.{findProgram, blockOfProgram}
-use Rattle.finding.specs.declared.Found.{Found}
-use Rattle.finding.specs.declared.Found.the-variants.{At, Nowhere}
+use Rattle.places.specs.declared.Found.{Found}
+use Rattle.places.specs.declared.Found.the-variants.{At, Nowhere}
 use Rattle.state.specs.Request.{requestOf}
 use Rattle.state.specs.declared.request.Request.{Request}
 use Rattle.state.specs.declared.request.Request.the-variants as asks
 use Rattle.ahead.specs.Ahead.{mostCalls, onto, calledAt, jumpedTo, lookedUp}
 use Rattle.ahead.specs.declared.Frame.{Frame}
+use Rattle.ahead.specs.declared.ProgramAt.{ProgramAt}
 use Rattle.ahead.specs.declared.Onward.{Onward}
 use Rattle.ahead.specs.declared.Onward.the-variants.{On, Call, Jump, Return, End, Stop}
 use Rattle.steps.specs.Steps.{Task, Step, blockOn, onwardBy, onwardOf, alarmAt, runAfter, takenFrom}
@@ -42,10 +43,10 @@ not-both P true x y h k = h
 not-both P false x y h k = k
 
 module _ (t : Task) (f : Frame) where
-  found-uncalled : eqb (f .«calls_left») 0 ≡ true → (g : Found) (times : ℕ) → IsCall (calledAt g f times) → ⊥
+  found-uncalled : eqb (f .«calls_left») 0 ≡ true → (g : Found) (n times : ℕ) → IsCall (calledAt g n f times) → ⊥
   unfolding calledAt
-  found-uncalled e Nowhere times h = h
-  found-uncalled e (At p) times h = subst (λ (b : Bool). IsCall (cond b (Stop tooDeep (f .at)) (Call p times))) e h
+  found-uncalled e Nowhere n times h = h
+  found-uncalled e (At p) n times h = subst (λ (b : Bool). IsCall (cond b (Stop tooDeep (f .at)) (Call (record { number = n; line = p }) times))) e h
 
   jump-uncalled : (g : Found) → IsCall (jumpedTo g f) → ⊥
   unfolding jumpedTo
@@ -56,9 +57,9 @@ module _ (t : Task) (f : Frame) where
   unfolding lookedUp
   looked-uncalled e asks.On h = h
   looked-uncalled e (asks.Call n times) h =
-      not-both IsCall (ltb n (t .settings .«lowest_subroutine») || ltb highestSubroutine n) (Stop programMissing (f .at)) (calledAt (findProgram n (lines (t .tape) (t .first))) f times) (λ x. x)
-      (found-uncalled e (findProgram n (lines (t .tape) (t .first))) times) h
-  looked-uncalled e (asks.Jump n) h = jump-uncalled (blockOfProgram n (t .tape) (f .program)) h
+      not-both IsCall (ltb n (t .settings .«lowest_subroutine») || ltb highestSubroutine n) (Stop programMissing (f .at)) (calledAt (findProgram n (lines (t .tape) (t .first))) n f times) (λ x. x)
+      (found-uncalled e (findProgram n (lines (t .tape) (t .first))) n times) h
+  looked-uncalled e (asks.Jump n) h = jump-uncalled (blockOfProgram n (t .tape) (f .program .line)) h
   looked-uncalled e asks.Return h = not-both IsCall (eqb (f .«calls_left») mostCalls) (Stop wrongEnd (f .at)) Return (λ x. x) (λ x. x) h
   looked-uncalled e asks.End h = not-both IsCall (eqb (f .«calls_left») mostCalls) End (Stop wrongEnd (f .at)) (λ x. x) (λ x. x) h
 
@@ -84,10 +85,10 @@ IsReturned Ended = ⊥
 IsReturned (Stopped alarm place) = ⊥
 
 module _ (t : Task) (f : Frame) (main : eqb (f .«calls_left») mostCalls ≡ true) where
-  found-stays : (g : Found) (times : ℕ) → IsReturn (calledAt g f times) → ⊥
+  found-stays : (g : Found) (n times : ℕ) → IsReturn (calledAt g n f times) → ⊥
   unfolding calledAt
-  found-stays Nowhere times h = h
-  found-stays (At p) times h = not-both IsReturn (eqb (f .«calls_left») 0) (Stop tooDeep (f .at)) (Call p times) (λ x. x) (λ x. x) h
+  found-stays Nowhere n times h = h
+  found-stays (At p) n times h = not-both IsReturn (eqb (f .«calls_left») 0) (Stop tooDeep (f .at)) (Call (record { number = n; line = p }) times) (λ x. x) (λ x. x) h
 
   jump-stays : (g : Found) → IsReturn (jumpedTo g f) → ⊥
   unfolding jumpedTo
@@ -98,9 +99,9 @@ module _ (t : Task) (f : Frame) (main : eqb (f .«calls_left») mostCalls ≡ tr
   unfolding lookedUp
   looked-stays asks.On h = h
   looked-stays (asks.Call n times) h =
-      not-both IsReturn (ltb n (t .settings .«lowest_subroutine») || ltb highestSubroutine n) (Stop programMissing (f .at)) (calledAt (findProgram n (lines (t .tape) (t .first))) f times) (λ x. x)
-      (found-stays (findProgram n (lines (t .tape) (t .first))) times) h
-  looked-stays (asks.Jump n) h = jump-stays (blockOfProgram n (t .tape) (f .program)) h
+      not-both IsReturn (ltb n (t .settings .«lowest_subroutine») || ltb highestSubroutine n) (Stop programMissing (f .at)) (calledAt (findProgram n (lines (t .tape) (t .first))) n f times) (λ x. x)
+      (found-stays (findProgram n (lines (t .tape) (t .first))) n times) h
+  looked-stays (asks.Jump n) h = jump-stays (blockOfProgram n (t .tape) (f .program .line)) h
   looked-stays asks.Return h = subst (λ (b : Bool). IsReturn (cond b (Stop wrongEnd (f .at)) Return)) main h
   looked-stays asks.End h = not-both IsReturn (eqb (f .«calls_left») mostCalls) End (Stop wrongEnd (f .at)) (λ x. x) (λ x. x) h
 
@@ -119,7 +120,7 @@ back-stays Returned x k e f b = f (x .outcome .run) b
 back-stays Ended x k e f b = subst IsReturned e b
 back-stays (Stopped alarm place) x k e f b = subst IsReturned e b
 
-on-stays : (call : ℕ → ℕ → Run → Ran) (k : ℕ → Run → Ran) → ((p : ℕ) (q : Run) → Back (k p q) → ⊥) → (w : Onward) → (IsReturn w → ⊥) → (q : Run) (after : ℕ) (st : Step)
+on-stays : (call : ProgramAt → ℕ → Run → Ran) (k : ℕ → Run → Ran) → ((p : ℕ) (q : Run) → Back (k p q) → ⊥) → (w : Onward) → (IsReturn w → ⊥) → (q : Run) (after : ℕ) (st : Step)
     → Back (goOn call k w q after st) → ⊥
 unfolding goOn pre andThen
 on-stays call k f On h q after st b = f after q b
@@ -129,7 +130,7 @@ on-stays call k f Return h q after st b = h tt
 on-stays call k f End h q after st b = b
 on-stays call k f (Stop alarm place) h q after st b = b
 
-blocks-stay : (call : ℕ → ℕ → Run → Ran) (t : Task) (fuel : ℕ) (f : Frame) → eqb (f .«calls_left») mostCalls ≡ true → (r : Run) → Back (blocks call t fuel f r) → ⊥
+blocks-stay : (call : ProgramAt → ℕ → Run → Ran) (t : Task) (fuel : ℕ) (f : Frame) → eqb (f .«calls_left») mostCalls ≡ true → (r : Run) → Back (blocks call t fuel f r) → ⊥
 unfolding blocks onward
 blocks-stay call t zero f main r = λ b. b
 blocks-stay call t (suc fuel) f main r =
@@ -143,7 +144,7 @@ never-returns t program r e = blocks-stay (called t mostCalls) t enough (entry t
 
 -- ---- the fuel is never used up
 module _ (t : Task) (calls : ℕ) where
-  abbrev call : ℕ → ℕ → Run → Ran
+  abbrev call : ProgramAt → ℕ → Run → Ran
   call p times r = called t calls p times r
 
   -- two ways on that agree on runs with few blocks left

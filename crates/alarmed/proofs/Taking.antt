@@ -10,11 +10,12 @@ use borrow.Author.Tests.{eq-eqb, ne-eqb}
 use Rattle.alarms.specs.Numbers.{wrongEnd}
 use Rattle.tape.specs.Lines.{textAt, lines}
 use Rattle.finding.specs.Finding.{firstBlock}
-use Rattle.finding.specs.declared.Found.{Found}
-use Rattle.finding.specs.declared.Found.the-variants.{At, Nowhere}
+use Rattle.places.specs.declared.Found.{Found}
+use Rattle.places.specs.declared.Found.the-variants.{At, Nowhere}
 use Rattle.machine.specs.Blocks.{doneRecords}
 use Rattle.ahead.specs.Ahead.{onto}
 use Rattle.ahead.specs.declared.Frame.{Frame}
+use Rattle.ahead.specs.declared.ProgramAt.{ProgramAt}
 use Rattle.ahead.specs.declared.Onward.{Onward}
 use Rattle.ahead.specs.declared.Onward.the-variants.{On, Call, Jump, Return, End, Stop}
 use Rattle.steps.specs.Steps.{Task, Step, blockOn, onwardOf, alarmBy, alarmAt, runAfter, doneAt, recordsAt, Taken, takenBy, takenFrom}
@@ -30,7 +31,7 @@ use Rattle.alarmed.specs.Walking.{stepAt}
 -- ---- what comes of a step from the frame's place on
 module _ (t : Task) (f : Frame) (r : Run) where
   abbrev pub early : Taken
-  early = record { done = record { onward = Stop wrongEnd (f .program); run = r; after = f .at }; step = record { place = f .program; before = r; records = [] } }
+  early = record { done = record { onward = Stop wrongEnd (f .program .line); run = r; after = f .at }; step = record { place = f .program .line; before = r; records = [] } }
 
   abbrev pub refusedAt : ℕ → Taken
   refusedAt p =
@@ -83,7 +84,7 @@ then-few : (n : ℕ) (x : Ran) (k : Run → Ran) → Few n x → ((q : Run) → 
 unfolding andThen
 then-few n x k a f = back-few n (x .outcome .ending) x k a f
 
-module _ (t : Task) (call : ℕ → ℕ → Run → Ran) (call-few : (p times n : ℕ) (r : Run) → r .«blocks_left» ≤ n → Few n (call p times r)) where
+module _ (t : Task) (call : ProgramAt → ℕ → Run → Ran) (call-few : (p : ProgramAt) (times n : ℕ) (r : Run) → r .«blocks_left» ≤ n → Few n (call p times r)) where
   on-few : (n : ℕ) (k : ℕ → Run → Ran) → ((p : ℕ) (q : Run) → q .«blocks_left» ≤ n → Few n (k p q)) → (w : Onward) (q : Run) (after : ℕ) (st : Step) → q .«blocks_left» ≤ n
       → Few n (goOn call k w q after st)
   unfolding goOn pre
@@ -108,7 +109,7 @@ unfolding repeated
 repeated-few one h zero n r a = a
 repeated-few one h (suc times) n r a = then-few n (one r) (λ s. repeated one times s) (h n r a) (λ q b. repeated-few one h times n q b)
 
-pub called-few : (t : Task) (c p times n : ℕ) (r : Run) → r .«blocks_left» ≤ n → Few n (called t c p times r)
+pub called-few : (t : Task) (c : ℕ) (p : ProgramAt) (times n : ℕ) (r : Run) → r .«blocks_left» ≤ n → Few n (called t c p times r)
 unfolding called
 called-few t zero p times n r a = a
 called-few t (suc c) p times n r a =

@@ -13,8 +13,8 @@ use Rattle.tape.specs.Lines.{seekFrom, opensTape, Text, lines}
 use Rattle.block.specs.Words.{lineOf}
 use Rattle.reading.specs.Reading.{History, nothingRead, noted, endsWith}
 use Rattle.finding.specs.Finding.{findProgram}
-use Rattle.finding.specs.declared.Found.{Found}
-use Rattle.finding.specs.declared.Found.the-variants.{At, Nowhere}
+use Rattle.places.specs.declared.Found.{Found}
+use Rattle.places.specs.declared.Found.the-variants.{At, Nowhere}
 use Rattle.steps.specs.Steps.{Task, taskOf, Step}
 use Rattle.answers.specs.Answers.{startOf}
 use Rattle.answers.specs.declared.Answer.{Answer}

@@ -3,6 +3,7 @@ use mathlib.Core.Path.{_≡_}
 use Prim.Native.Nat.{ℕ, _<_}
 use Rattle.ahead.specs.Ahead.{mostCalls}
 use Rattle.ahead.specs.declared.Frame.{Frame}
+use Rattle.ahead.specs.declared.ProgramAt.{ProgramAt}
 use Rattle.ahead.specs.declared.Onward.the-variants.{Call}
 use Rattle.steps.specs.Steps.{Task, onwardOf}
 use Rattle.steps.specs.declared.step.Run.{Run}
@@ -11,11 +12,11 @@ use Rattle.runners.specs.declared.run.Ending.the-variants.{Returned}
 
 -- a program with ten calls left never comes back: M17 in the main program is alarm 14
 abbrev pub NeverReturns : Type 0
-NeverReturns = (t : Task) (program : ℕ) (r : Run) → programRun t program mostCalls r .outcome .ending ≡ Returned → ⊥
+NeverReturns = (t : Task) (program : ProgramAt) (r : Run) → programRun t program mostCalls r .outcome .ending ≡ Returned → ⊥
 
 -- with no call left no call is asked for: it is alarm 12
 abbrev pub NeverCalls : Type 0
-NeverCalls = (t : Task) (f : Frame) (r : Run) → f .«calls_left» ≡ 0 → (program times : ℕ) → onwardOf t f r ≡ Call program times → ⊥
+NeverCalls = (t : Task) (f : Frame) (r : Run) → f .«calls_left» ≡ 0 → (program : ProgramAt) (times : ℕ) → onwardOf t f r ≡ Call program times → ⊥
 
 -- the fuel is never used up: with more than the blocks that may still begin, any two come to the same run
 abbrev pub FuelLasts : Type 0

@@ -23,8 +23,8 @@ use Rattle.block.specs.declared.words.Head.the-variants.{Blank, ProgramLine, Bl
 use Rattle.rules.specs.Rules.{lacksBy, brokenBy}
 use Rattle.reading.specs.Reading.{longestTape, History}
 use Rattle.finding.specs.Finding.{findProgram, blockOfProgram}
-use Rattle.finding.specs.declared.Found.{Found}
-use Rattle.finding.specs.declared.Found.the-variants.{At, Nowhere}
+use Rattle.places.specs.declared.Found.{Found}
+use Rattle.places.specs.declared.Found.the-variants.{At, Nowhere}
 use Rattle.axes.specs.Limits.{anyOutside}
 use Rattle.cycles.specs.Cycle as cycle
 use Rattle.state.specs.Modal.{settled, blockMotion}

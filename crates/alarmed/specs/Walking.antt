@@ -7,8 +7,8 @@ use lib.ListN.{length}
 use Rattle.alarms.specs.Numbers.{wrongEnd}
 use Rattle.tape.specs.Lines.{lineAt, lines}
 use Rattle.finding.specs.Finding.{findProgram, firstBlock, blockOfProgram}
-use Rattle.finding.specs.declared.Found.{Found}
-use Rattle.finding.specs.declared.Found.the-variants.{At, Nowhere}
+use Rattle.places.specs.declared.Found.{Found}
+use Rattle.places.specs.declared.Found.the-variants.{At, Nowhere}
 use Rattle.state.specs.Request.{requestOf}
 use Rattle.state.specs.declared.request.Request.{Request}
 use Rattle.state.specs.declared.request.Request.the-variants.{On, Call, Jump, Return, End}

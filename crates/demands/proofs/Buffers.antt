@@ -21,10 +21,11 @@ use Rattle.settings.specs.Points.{withPoints}
 use Rattle.settings.specs.declared.control.Settings.{Settings}
 use Rattle.machine.proofs.Running.{sound-after}
 use Rattle.ahead.specs.Ahead.{mostCalls, onto}
+use Rattle.ahead.specs.declared.ProgramAt.{ProgramAt}
 use Rattle.steps.specs.Steps.{Task, taskOf, Step, blockOn, runAfter}
 use Rattle.steps.specs.declared.step.Run.{Run}
 use Rattle.steps.proofs.Stepping.{worded-on}
-use Rattle.interpreter.specs.Answers.{Result, refused, resultOf, interpretation, laidBy}
+use Rattle.interpreter.specs.Answers.{Result, refused, resultOf, mainAt, interpretation, laidBy}
 use Rattle.answers.specs.Answers.{answerBy, startOf, headed}
 use Rattle.runners.specs.Runs.{recordsOf, programRun}
 use Rattle.answers.specs.declared.Answer.{Answer}
@@ -177,7 +178,7 @@ module _ (P : Task → State → Block → List Record → Type 0)
   unfolding EachFrom
   none-shown t b alarm place = record { steps = tt }
 
-  run-shown : (b : List ℕ) → headerSize ≤ length b → (t : Task) → Table (t .table) → InRange (t .settings) → Sound (startOf (t .settings) .state) → (p : ℕ) → p < length (t .tape)
+  run-shown : (b : List ℕ) → headerSize ≤ length b → (t : Task) → Table (t .table) → InRange (t .settings) → Sound (startOf (t .settings) .state) → (p : ProgramAt) → p .line < length (t .tape)
       → Shown t b (resultOf (programRun t p mostCalls (startOf (t .settings))))
   unfolding resultOf laidBy
   run-shown b header t known range sound p on =
@@ -194,4 +195,4 @@ module _ (P : Task → State → Block → List Record → Type 0)
   pub every-read : (tape : List ℕ) (table : List ℤ) (set : Settings) (b : List ℕ) → Shown (task tape table set (length b)) b (interpretation tape table set (length b))
   every-read tape table set b =
       every-result (λ t. Shown t b) tape table set (length b) (λ t alarm place _ _ _. none-shown t b alarm place)
-      (λ h _ k first end p on. run-shown b h (taskOf (take end tape) table (withPoints false set) first (length b)) (k .offsets) (k .range) (start-sound (set .x) (set .z) (k .starts .x) (k .starts .z)) p on)
+      (λ h _ k first end p on. run-shown b h (taskOf (take end tape) table (withPoints false set) first (length b)) (k .offsets) (k .range) (start-sound (set .x) (set .z) (k .starts .x) (k .starts .z)) (mainAt set p) on)

@@ -16,9 +16,10 @@ use Rattle.threading.specs.Threaded.{Threaded}
 use Rattle.verdicts.specs.Verdicts.{alarmIn}
 use Rattle.machine.specs.Blocks.{doneRecords}
 use Rattle.ahead.specs.Ahead.{mostCalls}
+use Rattle.ahead.specs.declared.ProgramAt.{ProgramAt}
 use Rattle.steps.specs.Steps.{Task, taskOf, Step, blockOn}
 use Rattle.answers.specs.Answers.{countOf, answerBy, startOf}
-use Rattle.interpreter.specs.Answers.{Result, refused, resultOf, interpretation}
+use Rattle.interpreter.specs.Answers.{Result, refused, resultOf, mainAt, interpretation}
 use Rattle.runners.specs.Runs.{programRun}
 use Rattle.runners.specs.declared.run.Ending.{Ending}
 use Rattle.runners.specs.declared.run.Ending.the-variants.{Returned, Ended, Stopped}
@@ -48,7 +49,7 @@ module _ (P : Task → State → Block → List Record → Type 0)
   unfolding Each
   none-shown t alarm place = record { steps = tt }
 
-  run-shown : (t : Task) (p : ℕ) → p < length (t .tape) → Shown t (resultOf (programRun t p mostCalls (startOf (t .settings))))
+  run-shown : (t : Task) (p : ProgramAt) → p .line < length (t .tape) → Shown t (resultOf (programRun t p mostCalls (startOf (t .settings))))
   unfolding resultOf
   run-shown t p on =
       let r = startOf (t .settings) in
@@ -57,7 +58,7 @@ module _ (P : Task → State → Block → List Record → Type 0)
 
   pub every-run : (tape : List ℕ) (table : List ℤ) (set : Settings) (bytes : ℕ) → Shown (task tape table set bytes) (interpretation tape table set bytes)
   every-run tape table set bytes =
-      every-result Shown tape table set bytes (λ t alarm place _ _ _. none-shown t alarm place) (λ _ _ _ first end p on. run-shown (taskOf (take end tape) table (withPoints false set) first bytes) p on)
+      every-result Shown tape table set bytes (λ t alarm place _ _ _. none-shown t alarm place) (λ _ _ _ first end p on. run-shown (taskOf (take end tape) table (withPoints false set) first bytes) (mainAt set p) on)
 
 -- what holds of each step holds of it otherwise said
 pub each-from : {A B : Step → ℕ → Type 0} → ((st : Step) (k : ℕ) → A st k → B st k) → (k : ℕ) (sts : List Step) → EachFrom A k sts → EachFrom B k sts

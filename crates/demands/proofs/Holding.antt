@@ -26,10 +26,11 @@ use Rattle.settings.specs.declared.control.Settings.{Settings}
 use Rattle.machine.proofs.Running.{done-few}
 use Rattle.moves.proofs.Room.{room-few, room-fits}
 use Rattle.ahead.specs.Ahead.{mostCalls, onto}
+use Rattle.ahead.specs.declared.ProgramAt.{ProgramAt}
 use Rattle.steps.specs.Steps.{Task, taskOf, Step, blockOn, runAfter}
 use Rattle.steps.specs.declared.step.Run.{Run}
 use Rattle.answers.specs.Answers.{countOf, answerBy, startOf, headed}
-use Rattle.interpreter.specs.Answers.{Result, refused, resultOf, longestTape, interpretation, answerOf, laidBy}
+use Rattle.interpreter.specs.Answers.{Result, refused, resultOf, mainAt, longestTape, interpretation, answerOf, laidBy}
 use Rattle.runners.specs.Runs.{recordsOf, programRun}
 use Rattle.answers.specs.declared.Answer.{Answer}
 use Rattle.answers.specs.declared.Answer.the-variants.{Complete, Alarm}
@@ -162,7 +163,7 @@ listed a b e rs f lawful count k c =
     }
 
 run-shown : (points : Bool) (size : ℕ) (b : List ℕ) → headerSize ≤ length b → (t : Task) → length (t .tape) ≤ size → size ≤ longestTape → t .room ≡ roomOf (length b) → Table (t .table) → InRange (t .settings)
-    → Sound (startOf (t .settings) .state) → (p : ℕ) → p < length (t .tape) → Shown points size b (resultOf (programRun t p mostCalls (startOf (t .settings))))
+    → Sound (startOf (t .settings) .state) → (p : ProgramAt) → p .line < length (t .tape) → Shown points size b (resultOf (programRun t p mostCalls (startOf (t .settings))))
 unfolding resultOf laidBy listBytes
 run-shown points size b header t short near room known range sound p on =
     let r = startOf (t .settings) in
@@ -195,7 +196,7 @@ module _ (tape : List ℕ) (table : List ℤ) (set : Settings) (b : List ℕ) wh
       every-result (λ _. Shown (set .points) (length tape) b) tape table set (length b) (λ _ alarm place some on near. none-shown (set .points) (length tape) b alarm place some on near)
       (λ h near k first end p on.
       run-shown (set .points) (length tape) b h (taskOf (take end tape) table (withPoints false set) first (length b)) (cut-short end tape) near refl (k .offsets) (k .range)
-      (start-sound (set .x) (set .z) (k .starts .x) (k .starts .z)) p on)
+      (start-sound (set .x) (set .z) (k .starts .x) (k .starts .z)) (mainAt set p) on)
 
   pub demand-one : DemandOne tape table set b
   demand-one = shown .one

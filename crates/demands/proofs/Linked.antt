@@ -11,12 +11,13 @@ use borrow.Author.Tests.{eq-eqb, ne-eqb}
 use Rattle.alarms.specs.Given.{IsAlarm}
 use Rattle.alarms.proofs.Above.{alarm-above}
 use Rattle.tape.specs.Lines.{lineAt, textAt, lines}
-use Rattle.finding.specs.declared.Found.{Found}
-use Rattle.finding.specs.declared.Found.the-variants.{At, Nowhere}
+use Rattle.places.specs.declared.Found.{Found}
+use Rattle.places.specs.declared.Found.the-variants.{At, Nowhere}
 use Rattle.verdicts.specs.Verdicts.{alarmIn}
 use Rattle.machine.specs.Blocks.{doneRecords}
 use Rattle.finding.specs.Finding.{firstBlock}
 use Rattle.steps.specs.Steps.{Task, Step, blockOn, onwardOf, alarmBy, alarmAt, runAfter, doneAt, recordsAt, takenBy, takenFrom}
+use Rattle.ahead.specs.declared.ProgramAt.{ProgramAt}
 use Rattle.ahead.specs.declared.Frame.{Frame}
 use Rattle.ahead.specs.declared.Onward.{Onward}
 use Rattle.ahead.specs.declared.Onward.the-variants.{On, Call, Jump, Return, End, Stop}
@@ -104,8 +105,8 @@ leads-then : (t : Task) (x : Ran) (k : Run → Ran) (r : Run) → Leads t r x �
 unfolding andThen
 leads-then t x k r p f = leads-back t (x .outcome .ending) x k r p f
 
-module _ (t : Task) (program calls : ℕ) (line : program < length (t .tape)) (call : ℕ → ℕ → Run → Ran)
-    (call-leads : (p n : ℕ) (r : Run) → p < length (t .tape) → Leads t r (call p n r)) where
+module _ (t : Task) (program : ProgramAt) (calls : ℕ) (line : program .line < length (t .tape)) (call : ProgramAt → ℕ → Run → Ran)
+    (call-leads : (p : ProgramAt) (n : ℕ) (r : Run) → p .line < length (t .tape) → Leads t r (call p n r)) where
   -- the program's frame at a place
   abbrev on : ℕ → Frame
   on at = record { program = program; «calls_left» = calls; at = at }
@@ -159,7 +160,7 @@ module _ (t : Task) (program calls : ℕ) (line : program < length (t .tape)) (c
     by-found : (from : ℕ) (r : Run) (g : Found) → FoundIn (length (t .tape)) g → Leads t r (onward call k (takenBy t (on from) r g))
     unfolding onward takenBy
     by-found from r (At p) here = by-alarm p here r k f (alarmAt t (on p) r) refl
-    by-found from r Nowhere here = stopped k r _ program from _ (refl, line)
+    by-found from r Nowhere here = stopped k r _ (program .line) from _ (refl, line)
 
     from-leads : (from : ℕ) (r : Run) → Leads t r (onward call k (takenFrom t (on from) r))
     unfolding takenFrom
@@ -176,13 +177,13 @@ unfolding repeated
 repeated-leads t one h zero r = none-taken t Returned r tt
 repeated-leads t one h (suc n) r = leads-then t (one r) (λ s. repeated one n s) r (h r) (λ q. repeated-leads t one h n q)
 
-called-leads : (t : Task) (c p n : ℕ) (r : Run) → p < length (t .tape) → Leads t r (called t c p n r)
+called-leads : (t : Task) (c : ℕ) (p : ProgramAt) (n : ℕ) (r : Run) → p .line < length (t .tape) → Leads t r (called t c p n r)
 unfolding called
 called-leads t zero p n r line = none-taken t _ r (refl, line)
 called-leads t (suc c) p n r line =
     repeated-leads t (λ s. blocks (λ q m u. called t c q m u) t enough (entry t p c) s)
-    (λ s. blocks-lead t p c line (λ q m u. called t c q m u) (λ q m u on. called-leads t c q m u on) enough (lineAt (t .tape) p .after) s) n r
+    (λ s. blocks-lead t p c line (λ q m u. called t c q m u) (λ q m u on. called-leads t c q m u on) enough (lineAt (t .tape) (p .line) .after) s) n r
 
 -- THE STEPS OF A PROGRAM'S RUN lead from where it began to where it ended, and an alarm that stops it has its place on the tape
-pub program-leads : (t : Task) (p c : ℕ) (r : Run) → p < length (t .tape) → Leads t r (programRun t p c r)
-program-leads t p c r line = blocks-lead t p c line (called t c) (λ q m u on. called-leads t c q m u on) enough (lineAt (t .tape) p .after) r
+pub program-leads : (t : Task) (p : ProgramAt) (c : ℕ) (r : Run) → p .line < length (t .tape) → Leads t r (programRun t p c r)
+program-leads t p c r line = blocks-lead t p c line (called t c) (λ q m u on. called-leads t c q m u on) enough (lineAt (t .tape) (p .line) .after) r

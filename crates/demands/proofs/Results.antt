@@ -15,15 +15,15 @@ use Rattle.tape.specs.Lines.{seekFrom, opensTape, Text, lines}
 use Rattle.rules.specs.Rules.{judged}
 use Rattle.finding.specs.Finding.{findProgram}
 use Rattle.reading.specs.Reading.{History, nothingRead, lineAlarm, noted, endsWith, readLines, readOf}
-use Rattle.finding.specs.declared.Found.{Found}
-use Rattle.finding.specs.declared.Found.the-variants.{At, Nowhere}
+use Rattle.places.specs.declared.Found.{Found}
+use Rattle.places.specs.declared.Found.the-variants.{At, Nowhere}
 use Rattle.reading.specs.declared.read.Read.{Read}
 use Rattle.reading.specs.declared.read.Read.the-variants as read
 use Rattle.settings.specs.declared.control.Settings.{Settings}
 use Rattle.ahead.specs.Ahead.{mostCalls}
 use Rattle.steps.specs.Steps.{Task, taskOf}
 use Rattle.ahead.proofs.Places.{AllIn, lines-in, FoundIn, program-on}
-use Rattle.interpreter.specs.Answers.{Result, refused, resultOf, mainBy, mainRun, readThen, longestTape, interpretation}
+use Rattle.interpreter.specs.Answers.{Result, refused, resultOf, mainAt, mainBy, mainRun, readThen, longestTape, interpretation}
 use Rattle.answers.specs.Answers.{startOf}
 use Rattle.runners.specs.Runs.{programRun}
 use Rattle.settings.specs.Wrong.{settingsWrong}
@@ -62,7 +62,7 @@ read-on points tape =
 module _ (P : Task → Result → Type 0) (tape : List ℕ) (table : List ℤ) (set : Settings) (bytes : ℕ)
     (none : (t : Task) (alarm place : ℕ) → IsAlarm (set .points) alarm → place ≤ length tape - 1 → place ≤ longestTape → P t (refused alarm place))
     (some : headerSize ≤ bytes → length tape ≤ longestTape → Right table (withPoints false set) → (first end p : ℕ) → let t = taskOf (take end tape) table (withPoints false set) first bytes in
-    p < length (t .tape) → P t (resultOf (programRun t p mostCalls (startOf (withPoints false set))))) where
+    p < length (t .tape) → P t (resultOf (programRun t (mainAt set p) mostCalls (startOf (withPoints false set))))) where
   main-is : headerSize ≤ bytes → length tape ≤ longestTape → Right table (withPoints false set) → (first end : ℕ) → let t = taskOf (take end tape) table (withPoints false set) first bytes in
       (f : Found) → FoundIn (length (t .tape)) f → P t (mainBy t f)
   unfolding mainBy

@@ -19,7 +19,7 @@ use Rattle.finding.specs.declared.Here.the-variants.{Is, Ends, On}
 use Rattle.finding.specs.declared.Sought.the-variants.{AnyBlock}
 use Rattle.finding.specs.declared.NextBlock.the-variants as next
 use Rattle.finding.specs.declared.Sought.{Sought}
-use Rattle.finding.specs.declared.Found.the-variants.{At, Nowhere}
+use Rattle.places.specs.declared.Found.the-variants.{At, Nowhere}
 use Rattle.finding.specs.Finding.{hereOf, foundBy, seekLine, firstBlock, behindStart, nextBlock, BlockIn}
 
 -- only one of the three

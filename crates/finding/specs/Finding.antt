@@ -19,8 +19,8 @@ use Rattle.finding.specs.declared.Here.{Here}
 use Rattle.finding.specs.declared.Here.the-variants.{Is, Ends, On}
 use Rattle.finding.specs.declared.Sought.{Sought}
 use Rattle.finding.specs.declared.Sought.the-variants.{Program, Block, AnyBlock}
-use Rattle.finding.specs.declared.Found.{Found}
-use Rattle.finding.specs.declared.Found.the-variants.{At, Nowhere}
+use Rattle.places.specs.declared.Found.{Found}
+use Rattle.places.specs.declared.Found.the-variants.{At, Nowhere}
 
 -- what a line is to a search, by how it begins: the one that is sought, one that ends the search, or one to be passed. A search for a block ends with its program. (A line that was read begins
 -- with no other word.)

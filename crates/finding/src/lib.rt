@@ -2,18 +2,13 @@
 // The tape that is handed in begins where the whole tape does, so that places count from there, and ends where its reading ended: nothing behind that exists.
 use block::words::Head;
 use block::words::LineStart;
+use places::Found;
 ghost use mathlib.Core.Path.{_≡_};
 ghost use Prim.Native.Nat.{_≤_};
 ghost use lib.ListN.{length};
 ghost use Rattle.tape.specs.Lines.{lines};
 ghost use Rattle.finding.specs.Finding.{hereOf, seekLine, findProgram, firstBlock, blockOfProgram, nextBlock, NextIn};
 ghost use Rattle.finding.specs.declared.Sought.the-variants.{Program, Block, AnyBlock};
-
-// The first byte of the line that was sought, or that there is none.
-pub enum Found {
-    At(usize),
-    Nowhere,
-}
 
 // A block line that was found: its first byte, the place in its text behind its block number, where the text ends, and where the next line begins.
 pub struct BlockAt {

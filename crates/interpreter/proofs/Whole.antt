@@ -14,8 +14,8 @@ use Rattle.moves.specs.Form.{headerSize, recordStart, recordLimit, rowBytes}
 use Rattle.tape.specs.Lines.{lines}
 use Rattle.finding.specs.Finding.{findProgram}
 use Rattle.reading.specs.Reading.{readOf}
-use Rattle.finding.specs.declared.Found.{Found}
-use Rattle.finding.specs.declared.Found.the-variants.{At, Nowhere}
+use Rattle.places.specs.declared.Found.{Found}
+use Rattle.places.specs.declared.Found.the-variants.{At, Nowhere}
 use Rattle.reading.specs.declared.read.Read.{Read}
 use Rattle.reading.specs.declared.read.Read.the-variants.{Whole}
 use Rattle.state.proofs.Ranges.{start-sound}
@@ -35,7 +35,7 @@ use Rattle.runners.specs.Meets.{Begins, RanMeets}
 use Rattle.settings.specs.Points.{withPoints}
 use Rattle.settings.specs.Wrong.{settingsWrong}
 use Rattle.settings.specs.Known.{Right}
-use Rattle.interpreter.specs.Answers.{Result, refused, resultOf, mainBy, mainRun, readThen, longestTape, interpretation, laidBy}
+use Rattle.interpreter.specs.Answers.{Result, refused, resultOf, mainAt, mainBy, mainRun, readThen, longestTape, interpretation, laidBy}
 use Rattle.answers.specs.Answers.{answerBy, startOf, headed}
 use Rattle.runners.proofs.Going.{wrote-length}
 
@@ -72,27 +72,27 @@ module _ (tape : List ℕ) (table : List ℤ) (set : Settings) (first : ℕ) (b 
     starts e = subst (Fit t) (sym e) (record { sound = start-sound (set .x) (set .z) (right .starts .x) (right .starts .z); count = omega arith })
 
     pub main-begins : {f : Found} → f ≡ findProgram (set .main) (lines tape first) → (p : ℕ) → f ≡ At p → {r : Run} → r ≡ startOf set
-        → Begins t (length b) p r
+        → Begins t (length b) (mainAt set p) r
     main-begins e p h k =
         let l : p < length tape = subst (FoundIn (length tape)) (sym e ∙ h) (program-on (set .main) tape first) in
         record { ready = ready; fit = starts k; line = omega (arith, l); few = omega (arith, ap (λ (x : Run). x .«blocks_left») k) }
 
-    module _ (p : ℕ) {r : Run} (k : r ≡ startOf set) {o : Outcome} {e : List ℕ} (q : RanMeets t (programRun t p mostCalls r) b r o e) where
+    module _ (p : ℕ) {r : Run} (k : r ≡ startOf set) {o : Outcome} {e : List ℕ} (q : RanMeets t (programRun t (mainAt set p) mostCalls r) b r o e) where
       -- the header and the count have their room
       pub finish-needs : (headerSize ≤ length e) × (o .run .count ≤ recordLimit)
       finish-needs = (
-        omega (arith, header, wrote-length tape table set first b header refl (recordsOf (programRun t p mostCalls r .steps)) (q .took)),
+        omega (arith, header, wrote-length tape table set first b header refl (recordsOf (programRun t (mainAt set p) mostCalls r .steps)) (q .took)),
         omega (arith, q .took .fit .count, room-few (length b)),
       )
 
-      ran : RanMeets t (programRun t p mostCalls (startOf set)) b (startOf set) o e
-      ran = subst (λ (s : Run). RanMeets t (programRun t p mostCalls s) b s o e) k q
+      ran : RanMeets t (programRun t (mainAt set p) mostCalls (startOf set)) b (startOf set) o e
+      ran = subst (λ (s : Run). RanMeets t (programRun t (mainAt set p) mostCalls s) b s o e) k q
 
       pub main-ran : {f : Found} → f ≡ findProgram (set .main) (lines tape first) → f ≡ At p → {a : Answer} {l : List ℕ}
           → a ≡ answerBy (o .ending) (o .run .count) → l ≡ headed (answerBy (o .ending) (o .run .count)) e → Gives (mainRun t) b a l
       unfolding mainBy resultOf laidBy
       main-ran z h {a} {l} x y =
-          let same : answerBy (o .ending) (o .run .count) ≡ resultOf (programRun t p mostCalls (startOf set)) .answer = ap (λ (w : Outcome). answerBy (w .ending) (w .run .count)) (ran .outcome) in
+          let same : answerBy (o .ending) (o .run .count) ≡ resultOf (programRun t (mainAt set p) mostCalls (startOf set)) .answer = ap (λ (w : Outcome). answerBy (w .ending) (w .run .count)) (ran .outcome) in
           gives-by b (main-is z h) (x ∙ same, y ∙ (λ i. headed (same i) (ran .took .buffer i)))
 
 -- ---- the tape as it was read

@@ -14,12 +14,13 @@ use Rattle.tape.specs.Lines.{lines}
 use Rattle.finding.specs.Finding.{findProgram}
 use Rattle.reading.specs.Reading.{readOf}
 use Rattle.reading.specs.Reading as reads
-use Rattle.finding.specs.declared.Found.{Found}
-use Rattle.finding.specs.declared.Found.the-variants.{At, Nowhere}
+use Rattle.places.specs.declared.Found.{Found}
+use Rattle.places.specs.declared.Found.the-variants.{At, Nowhere}
 use Rattle.reading.specs.declared.read.Read.{Read}
 use Rattle.reading.specs.declared.read.Read.the-variants as read
 use Rattle.settings.specs.declared.control.Settings.{Settings}
 use Rattle.ahead.specs.Ahead.{mostCalls}
+use Rattle.ahead.specs.declared.ProgramAt.{ProgramAt}
 use Rattle.steps.specs.Steps.{Task, taskOf, Step}
 use Rattle.answers.specs.declared.Answer.{Answer}
 use Rattle.answers.specs.declared.Answer.the-variants.{Alarm}
@@ -40,10 +41,14 @@ refused alarm place = record { answer = Alarm alarm place 0; steps = [] }
 unfoldable pub resultOf : Ran → Result
 resultOf x = record { answer = answerBy (x .outcome .ending) (x .outcome .run .count); steps = x .steps }
 
+-- the main program, whose line stands at p
+abbrev pub mainAt : Settings → ℕ → ProgramAt
+mainAt set p = record { number = set .main; line = p }
+
 -- the run of the main program, which was looked for: "then 10 for the main"
 unfoldable pub mainBy : Task → Found → Result
 mainBy t Nowhere = refused programMissing 0
-mainBy t (At p) = resultOf (programRun t p mostCalls (startOf (t .settings)))
+mainBy t (At p) = resultOf (programRun t (mainAt (t .settings) p) mostCalls (startOf (t .settings)))
 
 unfoldable pub mainRun : Task → Result
 mainRun t = mainBy t (findProgram (t .settings .main) (lines (t .tape) (t .first)))

@@ -1,7 +1,8 @@
 // The interpreter: a tape, a table, settings and a lent buffer in, a list of moves or a named alarm out. No caller has to check anything first.
 // (01: "1 to 4 in that order; then lines from the front ..; then 10 for the main; then blocks as run".)
+use ahead::ProgramAt;
 use answers::Answer;
-use finding::Found;
+use places::Found;
 use reading::read::Read;
 use settings::control::Settings;
 ghost use mathlib.Core.Path.{_≡_};
@@ -19,7 +20,7 @@ fn run_main(tape: &[u8], table: &[i32], set: Settings, first: usize, buf: &mut [
     ensures records { λ _. ⌜ now (buf .exit) ≡ laidBy (mainRun (taskOf (now (tape .entry)) (now (table .entry)) set first (length (now (buf .entry))))) (now (buf .entry)) ⌝ }
 {
     let found = finding::find_program(tape, first, set.main);
-    let Found::At(p) = found else {
+    let Found::At(line) = found else {
         return Answer::Alarm(alarms::PROGRAM_MISSING, 0, 0);
     };
     let o = runners::run::run_program(
@@ -28,7 +29,10 @@ fn run_main(tape: &[u8], table: &[i32], set: Settings, first: usize, buf: &mut [
         set,
         first,
         buf,
-        p,
+        ProgramAt {
+            number: set.main,
+            line,
+        },
         ahead::MOST_CALLS,
         answers::start_of(set),
     );

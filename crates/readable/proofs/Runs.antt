@@ -28,11 +28,12 @@ use Rattle.verdicts.proofs.Passing.{all-passed, right-in}
 use Rattle.machine.specs.Blocks.{doneRecords, doneState}
 use Rattle.machine.proofs.Running.{sound-after}
 use Rattle.ahead.specs.Ahead.{mostCalls, onto}
+use Rattle.ahead.specs.declared.ProgramAt.{ProgramAt}
 use Rattle.steps.specs.Steps.{Task, taskOf, Step, blockOn, runAfter}
 use Rattle.steps.specs.declared.step.Run.{Run}
 use Rattle.runners.specs.Runs.{recordsOf, programRun}
 use Rattle.answers.specs.Answers.{startOf, numberOf, countOf}
-use Rattle.interpreter.specs.Answers.{Result, refused, resultOf, interpretation, bufferOf}
+use Rattle.interpreter.specs.Answers.{Result, mainAt, refused, resultOf, interpretation, bufferOf}
 use Rattle.settings.specs.Points.{withPoints}
 use Rattle.demands.specs.Demands.{IsList}
 use Rattle.demands.specs.Steps.{Linked}
@@ -149,7 +150,7 @@ module _ (tape : List ℕ) (table : List ℤ) (set : Settings) (b : List ℕ) wh
   unfolding recordsOf
   none-shown alarm place = record { records = tt }
 
-  run-shown : (t : Task) → InRange (t .settings) → Sound (startOf (t .settings) .state) → (p : ℕ) → p < length (t .tape) → Shown (resultOf (programRun t p mostCalls (startOf (t .settings))))
+  run-shown : (t : Task) → InRange (t .settings) → Sound (startOf (t .settings) .state) → (p : ProgramAt) → p .line < length (t .tape) → Shown (resultOf (programRun t p mostCalls (startOf (t .settings))))
   unfolding resultOf
   run-shown t range sound p on =
       let r = startOf (t .settings) in
@@ -159,7 +160,7 @@ module _ (tape : List ℕ) (table : List ℤ) (set : Settings) (b : List ℕ) wh
   shown : Shown (interpretation tape table set (length b))
   shown =
       every-result (λ _. Shown) tape table set (length b) (λ _ alarm place _ _ _. none-shown alarm place)
-      (λ h _ k first end p on. run-shown (taskOf (take end tape) table (withPoints false set) first (length b)) (k .range) (start-sound (set .x) (set .z) (k .starts .x) (k .starts .z)) p on)
+      (λ h _ k first end p on. run-shown (taskOf (take end tape) table (withPoints false set) first (length b)) (k .range) (start-sound (set .x) (set .z) (k .starts .x) (k .starts .z)) (mainAt set p) on)
 
   -- EVERY LIST THAT A RUN WRITES IS READ BACK
   pub list-is-read : ListIsRead tape table set b

@@ -23,6 +23,7 @@ use Rattle.moves.proofs.Room.{room-fits}
 use Rattle.ahead.specs.Ahead.{onto}
 use Rattle.steps.specs.Steps.{Task, taskOf, Step, Taken, takenFrom}
 use Rattle.steps.specs.Meets.{Ready, Fit, Needs, Goes, Wrote, StepMeets}
+use Rattle.ahead.specs.declared.ProgramAt.{ProgramAt}
 use Rattle.ahead.specs.declared.Frame.{Frame}
 use Rattle.ahead.specs.declared.Onward.{Onward}
 use Rattle.ahead.specs.declared.Onward.the-variants.{On, Call, Jump, Return, End, Stop}
@@ -63,7 +64,7 @@ then-is : (x : Ran) (k : Run → Ran) {o : Outcome} {h : Ending} → o ≡ x .ou
 unfolding andThen
 then-is x k p e = ap (λ (y : Outcome). goBack (y .ending) x k) (sym p) ∙ ap (λ (y : Ending). goBack y x k) e
 
-onward-is : (call : ℕ → ℕ → Run → Ran) (k : ℕ → Run → Ran) (x : Taken) {d : StepDone} {w : Onward} → d ≡ x .done → d .onward ≡ w
+onward-is : (call : ProgramAt → ℕ → Run → Ran) (k : ℕ → Run → Ran) (x : Taken) {d : StepDone} {w : Onward} → d ≡ x .done → d .onward ≡ w
     → onward call k x ≡ goOn call k w (d .run) (d .after) (x .step)
 unfolding onward
 onward-is call k x {d} p e =
@@ -77,16 +78,16 @@ not-returned Ended x k t = refl
 not-returned (Stopped alarm place) x k t = refl
 
 -- one step of a program, at any fuel
-blocks-suc : (call : ℕ → ℕ → Run → Ran) (t : Task) (n : ℕ) (f : Frame) (r : Run) → blocks call t (suc n) f r ≡ onward call (λ p s. blocks call t n (onto f p) s) (takenFrom t f r)
+blocks-suc : (call : ProgramAt → ℕ → Run → Ran) (t : Task) (n : ℕ) (f : Frame) (r : Run) → blocks call t (suc n) f r ≡ onward call (λ p s. blocks call t n (onto f p) s) (takenFrom t f r)
 unfolding blocks
 blocks-suc call t n f r = refl
 
 -- a frame of its parts
-abbrev pub on : ℕ → ℕ → ℕ → Frame
+abbrev pub on : ProgramAt → ℕ → ℕ → Frame
 on program calls at = record { program = program; «calls_left» = calls; at = at }
 
 -- A PROGRAM'S LOOP: from the buffer b₀ and the run r₀ it came to b and r, and what is left to run is the program from `at` on
-pub record Going (t : Task) (program calls : ℕ) (b₀ : List ℕ) (r₀ : Run) (b : List ℕ) (r : Run) (at : ℕ) : Type 0 where
+pub record Going (t : Task) (program : ProgramAt) (calls : ℕ) (b₀ : List ℕ) (r₀ : Run) (b : List ℕ) (r : Run) (at : ℕ) : Type 0 where
   pub fuel : ℕ
   pub done : List Step
   pub same : programRun t program calls r₀ ≡ pre done (blocks (called t calls) t (suc fuel) (on program calls at) r)
@@ -96,7 +97,7 @@ pub record Going (t : Task) (program calls : ℕ) (b₀ : List ℕ) (r₀ : Run)
   pub here : at ≤ length (t .tape)
 
 -- A CALL'S LOOP: from b₀ and r₀ it came to b and r, and n runs of the program are left
-pub record Repeating (t : Task) (program calls times : ℕ) (b₀ : List ℕ) (r₀ : Run) (b : List ℕ) (r : Run) (n : ℕ) : Type 0 where
+pub record Repeating (t : Task) (program : ProgramAt) (calls times : ℕ) (b₀ : List ℕ) (r₀ : Run) (b : List ℕ) (r : Run) (n : ℕ) : Type 0 where
   pub done : List Step
   pub same : called t calls program times r₀ ≡ pre done (repeated (programRun t program (calls - 1)) n r)
   pub took : Took t b₀ r₀ done b r
@@ -140,8 +141,8 @@ module _ (tape : List ℕ) (table : List ℤ) (set : Settings) (first : ℕ) (b�
   nothing {x} {h} {b} {r} e f =
       subst (λ (z : Ran). RanMeets t z b r (record { ending = h; run = r }) b) (sym e) (record { outcome = refl; took = took-nil t b r f })
 
-  module _ (program calls : ℕ) (r₀ : Run) where
-    pub start : Fit t r₀ → r₀ .«blocks_left» ≤ blocksInAll → lineAt tape program .after ≤ length tape → Going t program calls b₀ r₀ b₀ r₀ (lineAt tape program .after)
+  module _ (program : ProgramAt) (calls : ℕ) (r₀ : Run) where
+    pub start : Fit t r₀ → r₀ .«blocks_left» ≤ blocksInAll → lineAt tape (program .line) .after ≤ length tape → Going t program calls b₀ r₀ b₀ r₀ (lineAt tape (program .line) .after)
     unfolding spare
     start f few here = record {
       fuel = 20_000;
@@ -153,12 +154,12 @@ module _ (tape : List ℕ) (table : List ℤ) (set : Settings) (first : ℕ) (b�
       here = here;
     }
 
-    pub start-at : Fit t r₀ → r₀ .«blocks_left» ≤ blocksInAll → {at : ℕ} → at ≡ lineAt tape program .after → at ≤ length tape → Going t program calls b₀ r₀ b₀ r₀ at
+    pub start-at : Fit t r₀ → r₀ .«blocks_left» ≤ blocksInAll → {at : ℕ} → at ≡ lineAt tape (program .line) .after → at ≤ length tape → Going t program calls b₀ r₀ b₀ r₀ at
     start-at f few {at} e h =
         subst (Going t program calls b₀ r₀ b₀ r₀) (sym e) (start f few (subst (λ (p : ℕ). p ≤ length tape) e h))
 
     -- what a step asks for
-    pub step-needs : {b : List ℕ} {r : Run} {at : ℕ} → Going t program calls b₀ r₀ b r at → program ≤ length tape → Ready t (length b₀)
+    pub step-needs : {b : List ℕ} {r : Run} {at : ℕ} → Going t program calls b₀ r₀ b r at → program .line ≤ length tape → Ready t (length b₀)
         → Needs (taskOf tape table set first (length b)) (length b) (on program calls at) r
     step-needs {b} {r} {at} g p k =
         subst (λ (n : ℕ). Needs (taskOf tape table set first n) n (on program calls at) r) (sym (g .size)) (record { ready = k; fit = g .took .fit; line = p; here = g .here })
@@ -243,7 +244,7 @@ module _ (tape : List ℕ) (table : List ℤ) (set : Settings) (first : ℕ) (b�
       stops alarm place p = ends [] p refl (subst (λ (l : List Record). Wrote t b r l e (d .run)) (goes p) (m .wrote))
 
       -- a call
-      module _ (p times : ℕ) (h : d .onward ≡ Call p times) where
+      module _ (p : ProgramAt) (times : ℕ) (h : d .onward ≡ Call p times) where
         pub less-call : d .run .«blocks_left» < r .«blocks_left»
         less-call = goes h .0
 
@@ -286,11 +287,11 @@ module _ (tape : List ℕ) (table : List ℤ) (set : Settings) (first : ℕ) (b�
               after (g .done ++ (here ∷ [])) refl (been refl ∙ ap (pre (g .done ++ (here ∷ []))) (not-returned (o .ending) run (rest (g .fuel) (d .after)) k)) so-far q
 
   -- ---- a call
-  module _ (program calls times : ℕ) (r₀ : Run) where
+  module _ (program : ProgramAt) (calls times : ℕ) (r₀ : Run) where
     abbrev body : Run → Ran
     body r = programRun t program (calls - 1) r
 
-    pub none-left : calls ≡ 0 → called t calls program times r₀ ≡ ran (Stopped tooDeep program) r₀ []
+    pub none-left : calls ≡ 0 → called t calls program times r₀ ≡ ran (Stopped tooDeep (program .line)) r₀ []
     unfolding called
     none-left e = ap (λ (c : ℕ). called t c program times r₀) e
 
@@ -316,7 +317,7 @@ module _ (tape : List ℕ) (table : List ℤ) (set : Settings) (first : ℕ) (b�
     all {b} {r} g h = after (g .done) refl (g .same ∙ ap (λ (m : ℕ). pre (g .done) (repeated body m r)) h) (g .took) (nothing refl (g .took .fit))
 
     module _ {b : List ℕ} {r : Run} {n : ℕ} (g : Repeating t program calls times b₀ r₀ b r n) (some : 0 < n) where
-      pub run-begins : program ≤ length tape → Ready t (length b₀) → r₀ .«blocks_left» ≤ blocksInAll → Begins (taskOf tape table set first (length b)) (length b) program r
+      pub run-begins : program .line ≤ length tape → Ready t (length b₀) → r₀ .«blocks_left» ≤ blocksInAll → Begins (taskOf tape table set first (length b)) (length b) program r
       run-begins p k few =
           subst (λ (m : ℕ). Begins (taskOf tape table set first m) m program r) (sym (g .size))
           (record { ready = k; fit = g .took .fit; line = p; few = omega (arith, g .took .left, few) })

@@ -3,6 +3,7 @@ use mathlib.Core.Path.{_≡_}
 use mathlib.Core.List.{List}
 use Prim.Native.Nat.{ℕ, _≤_}
 use lib.ListN.{length}
+use Rattle.ahead.specs.declared.ProgramAt.{ProgramAt}
 use Rattle.steps.specs.Steps.{Task, Step}
 use Rattle.steps.specs.Meets.{Ready, Fit, Wrote}
 use Rattle.steps.specs.declared.step.Run.{Run}
@@ -10,10 +11,10 @@ use Rattle.runners.specs.declared.run.Outcome.{Outcome}
 use Rattle.runners.specs.Runs.{blocksInAll, Ran, recordsOf, called, programRun}
 
 -- what a program asks for that is begun: its line lies on the tape, and no more blocks are left than a run may begin
-pub record Begins (t : Task) (bytes program : ℕ) (r : Run) : Type 0 where
+pub record Begins (t : Task) (bytes : ℕ) (program : ProgramAt) (r : Run) : Type 0 where
   pub ready : Ready t bytes
   pub fit : Fit t r
-  pub line : program ≤ length (t .tape)
+  pub line : program .line ≤ length (t .tape)
   pub few : r .«blocks_left» ≤ blocksInAll
 
 -- from the run r and the buffer b to the run s and the buffer e some steps were taken
@@ -24,8 +25,8 @@ pub record RanMeets (t : Task) (x : Ran) (b : List ℕ) (r : Run) (o : Outcome) 
   pub outcome : o ≡ x .outcome
   pub took : Took t b r (x .steps) e (o .run)
 
-abbrev pub ProgramMeets : Task → List ℕ → ℕ → ℕ → Run → Outcome → List ℕ → Type 0
+abbrev pub ProgramMeets : Task → List ℕ → ProgramAt → ℕ → Run → Outcome → List ℕ → Type 0
 ProgramMeets t b program calls r o e = RanMeets t (programRun t program calls r) b r o e
 
-abbrev pub CallMeets : Task → List ℕ → ℕ → ℕ → ℕ → Run → Outcome → List ℕ → Type 0
+abbrev pub CallMeets : Task → List ℕ → ProgramAt → ℕ → ℕ → Run → Outcome → List ℕ → Type 0
 CallMeets t b program calls times r o e = RanMeets t (called t calls program times r) b r o e

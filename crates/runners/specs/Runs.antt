@@ -7,6 +7,7 @@ use Rattle.moves.specs.declared.record.Record.{Record}
 use Rattle.tape.specs.Lines.{lineAt}
 use Rattle.ahead.specs.Ahead.{onto}
 use Rattle.steps.specs.Steps.{Task, Step, Taken, takenFrom}
+use Rattle.ahead.specs.declared.ProgramAt.{ProgramAt}
 use Rattle.ahead.specs.declared.Frame.{Frame}
 use Rattle.ahead.specs.declared.Onward.{Onward}
 use Rattle.ahead.specs.declared.Onward.the-variants.{On, Call, Jump, Return, End, Stop}
@@ -42,7 +43,7 @@ unfoldable pub andThen : Ran → (Run → Ran) → Ran
 andThen x k = goBack (x .outcome .ending) x k
 
 -- after the step st, which left the run r and whose block ends before the place `after`: on with k from a place, a call and then k, or an end
-unfoldable pub goOn : (ℕ → ℕ → Run → Ran) → (ℕ → Run → Ran) → Onward → Run → ℕ → Step → Ran
+unfoldable pub goOn : (ProgramAt → ℕ → Run → Ran) → (ℕ → Run → Ran) → Onward → Run → ℕ → Step → Ran
 goOn call k On r after st = pre (st ∷ []) (k after r)
 goOn call k (Jump place) r after st = pre (st ∷ []) (k place r)
 goOn call k (Call program times) r after st = pre (st ∷ []) (andThen (call program times r) (k after))
@@ -50,12 +51,12 @@ goOn call k Return r after st = ran Returned r (st ∷ [])
 goOn call k End r after st = ran Ended r (st ∷ [])
 goOn call k (Stop alarm place) r after st = ran (Stopped alarm place) r []
 
-unfoldable pub onward : (ℕ → ℕ → Run → Ran) → (ℕ → Run → Ran) → Taken → Ran
+unfoldable pub onward : (ProgramAt → ℕ → Run → Ran) → (ℕ → Run → Ran) → Taken → Ran
 onward call k x = goOn call k (x .done .onward) (x .done .run) (x .done .after) (x .step)
 
--- the blocks of a program from the frame's place on; `call p n r` is a call of the program at p, n times. The first number is a fuel, more than the blocks that may still begin
-unfoldable pub blocks : (ℕ → ℕ → Run → Ran) → Task → ℕ → Frame → Run → Ran
-blocks call t zero f r = ran (Stopped tooManyBegun (f .program)) r []
+-- the blocks of a program from the frame's place on; `call p n r` is a call of the program p, n times. The first number is a fuel, more than the blocks that may still begin
+unfoldable pub blocks : (ProgramAt → ℕ → Run → Ran) → Task → ℕ → Frame → Run → Ran
+blocks call t zero f r = ran (Stopped tooManyBegun (f .program .line)) r []
 blocks call t (suc n) f r = onward call (λ p s. blocks call t n (onto f p) s) (takenFrom t f r)
 
 -- "A run begins at most 20,000 blocks"
@@ -72,14 +73,14 @@ repeated one zero r = ran Returned r []
 repeated one (suc n) r = andThen (one r) (λ s. repeated one n s)
 
 -- the frame in which a program begins, with so many calls left: at the line behind its own
-abbrev pub entry : Task → ℕ → ℕ → Frame
-entry t program calls = record { program = program; «calls_left» = calls; at = lineAt (t .tape) program .after }
+abbrev pub entry : Task → ProgramAt → ℕ → Frame
+entry t program calls = record { program = program; «calls_left» = calls; at = lineAt (t .tape) (program .line) .after }
 
 -- a call, with so many calls left: the program runs so many times, with one call fewer left. (No call is asked for where none is left: that is alarm 12.)
-unfoldable pub called : Task → ℕ → ℕ → ℕ → Run → Ran
-called t zero program times r = ran (Stopped tooDeep program) r []
+unfoldable pub called : Task → ℕ → ProgramAt → ℕ → Run → Ran
+called t zero program times r = ran (Stopped tooDeep (program .line)) r []
 called t (suc c) program times r = repeated (λ s. blocks (λ p n u. called t c p n u) t enough (entry t program c) s) times r
 
--- THE RUN OF A PROGRAM whose line stands at `program`, with so many calls left: its blocks from the line behind
-abbrev pub programRun : Task → ℕ → ℕ → Run → Ran
+-- THE RUN OF A PROGRAM, with so many calls left: its blocks from the line behind its own
+abbrev pub programRun : Task → ProgramAt → ℕ → Run → Ran
 programRun t program calls r = blocks (called t calls) t enough (entry t program calls) r

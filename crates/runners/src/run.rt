@@ -2,6 +2,7 @@
 // stack is never deeper than the calls of the program are.
 use ahead::Frame;
 use ahead::Onward;
+use ahead::ProgramAt;
 use settings::control::Settings;
 use steps::step::Run;
 ghost use mathlib.Core.Path.{_≡_};
@@ -21,21 +22,21 @@ pub struct Outcome {
     pub run: Run,
 }
 
-// Runs the blocks of the program whose line stands at `program`, with so many calls left, until it returns, the run ends or an alarm stops it.
+// Runs the blocks of a program, with so many calls left, until it returns, the run ends or an alarm stops it.
 pub fn run_program(
     tape: &[u8],
     table: &[i32],
     set: Settings,
     first: usize,
     buf: &mut [u8],
-    program: usize,
+    program: ProgramAt,
     calls: u32,
     run: Run,
 ) -> Outcome
     requires { ⌜ Begins (taskOf (now tape) (now table) set first (length (now buf))) (length (now buf)) program run ⌝ }
     ensures { λ r. ⌜ ProgramMeets (taskOf (now (tape .entry)) (now (table .entry)) set first (length (now (buf .entry)))) (now (buf .entry)) program calls run r (now (buf .exit)) ⌝ }
 {
-    let line = tape::line::line_at(tape, program);
+    let line = tape::line::line_at(tape, program.line);
     let mut now = run;
     let mut at = line.after;
     loop {
@@ -93,14 +94,14 @@ pub fn run_program(
     }
 }
 
-// Runs the program whose line stands at `program` so many times. Who calls it has calls left: the eleventh call deep was refused (alarm 12).
+// Runs a program so many times. Who calls it has calls left: the eleventh call deep was refused (alarm 12).
 fn run_call(
     tape: &[u8],
     table: &[i32],
     set: Settings,
     first: usize,
     buf: &mut [u8],
-    program: usize,
+    program: ProgramAt,
     calls: u32,
     times: u32,
     run: Run,
@@ -110,7 +111,7 @@ fn run_call(
 {
     if calls == 0 {
         return Outcome {
-            ending: Ending::Stopped(alarms::TOO_DEEP, program),
+            ending: Ending::Stopped(alarms::TOO_DEEP, program.line),
             run,
         };
     }

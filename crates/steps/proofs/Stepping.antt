@@ -32,8 +32,8 @@ use Rattle.finding.specs.Finding.{firstBlock, blockAt, nextBlock}
 use Rattle.finding.specs.declared.BlockAt.{BlockAt}
 use Rattle.finding.specs.declared.NextBlock.{NextBlock}
 use Rattle.finding.specs.declared.NextBlock.the-variants as found
-use Rattle.finding.specs.declared.Found.{Found}
-use Rattle.finding.specs.declared.Found.the-variants.{At, Nowhere}
+use Rattle.places.specs.declared.Found.{Found}
+use Rattle.places.specs.declared.Found.the-variants.{At, Nowhere}
 use Rattle.state.specs.declared.modal.State.{State}
 use Rattle.verdicts.specs.Verdicts.{alarmIn}
 use Rattle.machine.specs.Blocks.{doneRecords, blockRecords, outcomeOf}
@@ -317,7 +317,7 @@ module _ (t : Task) (b : List ℕ) (f : Frame) (r : Run) (n : Needs t (length b)
         after = k;
       }
 
-  pub step-ended : firstBlock (lines (t .tape) (f .at)) ≡ Nowhere → StepMeets t b f r (record { onward = Stop wrongEnd (f .program); run = r; after = f .at }) b
+  pub step-ended : firstBlock (lines (t .tape) (f .at)) ≡ Nowhere → StepMeets t b f r (record { onward = Stop wrongEnd (f .program .line); run = r; after = f .at }) b
   unfolding takenBy rowBytes
   step-ended e =
       step-meets (taken-is e) refl (record { buffer = sym (laid-nil b (recordStart (r .count))); count = omega arith; fit = n .fit; left = omega arith }) refl (n .here)

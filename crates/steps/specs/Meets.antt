@@ -37,7 +37,7 @@ pub record Fit (t : Task) (r : Run) : Type 0 where
 pub record Needs (t : Task) (bytes : ℕ) (f : Frame) (r : Run) : Type 0 where
   pub ready : Ready t bytes
   pub fit : Fit t r
-  pub line : f .program ≤ length (t .tape)
+  pub line : f .program .line ≤ length (t .tape)
   pub here : f .at ≤ length (t .tape)
 
 -- a line whose first word ends at `behind`
@@ -55,7 +55,7 @@ pub record Stands (tape : List ℕ) (f : Frame) (l : BlockAt) : Type 0 where
 -- the places that the runner goes to lie on the tape, a block that was done leaves one fewer to begin, and a refused one has written nothing
 abbrev pub Goes : Task → Run → Run → List Record → Onward → Type 0
 Goes t r s v On = s .«blocks_left» < r .«blocks_left»
-Goes t r s v (Call p times) = (s .«blocks_left» < r .«blocks_left») × (p ≤ length (t .tape))
+Goes t r s v (Call p times) = (s .«blocks_left» < r .«blocks_left») × (p .line ≤ length (t .tape))
 Goes t r s v (Jump p) = (s .«blocks_left» < r .«blocks_left») × (p ≤ length (t .tape))
 Goes t r s v Return = Unit {0}
 Goes t r s v End = Unit {0}

@@ -15,8 +15,8 @@ use Rattle.state.specs.Request.{requestOf}
 use Rattle.block.specs.declared.words.Block.{Block}
 use Rattle.settings.specs.declared.control.Settings.{Settings}
 use Rattle.finding.specs.Finding.{firstBlock}
-use Rattle.finding.specs.declared.Found.{Found}
-use Rattle.finding.specs.declared.Found.the-variants.{At, Nowhere}
+use Rattle.places.specs.declared.Found.{Found}
+use Rattle.places.specs.declared.Found.the-variants.{At, Nowhere}
 use Rattle.verdicts.specs.Verdicts.{alarmIn}
 use Rattle.machine.specs.Blocks.{doneRecords, doneState}
 use Rattle.ahead.specs.Ahead.{onto, lookedUp}
@@ -108,7 +108,7 @@ pub record Taken : Type 0 where
 unfoldable pub takenBy : Task → Frame → Run → Found → Taken
 takenBy t f r (At p) = record { done = doneAt t (onto f p) r; step = record { place = p; before = r; records = recordsAt t (onto f p) r } }
 takenBy t f r Nowhere =
-    record { done = record { onward = Stop wrongEnd (f .program); run = r; after = f .at }; step = record { place = f .program; before = r; records = [] } }
+    record { done = record { onward = Stop wrongEnd (f .program .line); run = r; after = f .at }; step = record { place = f .program .line; before = r; records = [] } }
 
 unfoldable pub takenFrom : Task → Frame → Run → Taken
 takenFrom t f r = takenBy t f r (firstBlock (lines (t .tape) (f .at)))

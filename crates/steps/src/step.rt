@@ -55,7 +55,7 @@ fn words_of(line: &[u8], behind: usize) -> Block
 
 // What the block at the frame's place asks of the runner, where so many blocks may still begin: alarms 13, 14, 10, 11 and 12.
 fn onward_of(tape: &[u8], set: Settings, first: usize, frame: Frame, left: u32, b: Block) -> Onward
-    requires { ⌜ (first ≤ length (now tape)) × (frame .program ≤ length (now tape)) ⌝ }
+    requires { ⌜ (first ≤ length (now tape)) × (frame .program .line ≤ length (now tape)) ⌝ }
     ensures { λ r. ⌜ r ≡ onwardBy (now (tape .entry)) set first frame left b ⌝ }
 {
     if left == 0 {
@@ -151,10 +151,11 @@ pub fn take_step(
     ensures { λ r. ⌜ StepMeets (taskOf (now (tape .entry)) (now (table .entry)) set first (length (now (buf .entry)))) (now (buf .entry)) frame run r (now (buf .exit)) ⌝ }
 {
     let from = frame.at;
+    let program = frame.program;
     let next = finding::next_block(tape, from);
     match next {
         NextBlock::Nowhere => StepDone {
-            onward: Onward::Stop(alarms::WRONG_END, frame.program),
+            onward: Onward::Stop(alarms::WRONG_END, program.line),
             run,
             after: from,
         },
@@ -164,7 +165,7 @@ pub fn take_step(
                 return pass_block(run, line.after);
             }
             let there = Frame {
-                program: frame.program,
+                program,
                 calls_left: frame.calls_left,
                 at: line.at,
             };

@@ -1,7 +1,7 @@
 -- `ahead::jumped_to` meets its contract.
 use mathlib.Core.Path.{sym, ap}
 use borrow.Author.Needs.{needs}
-use Rattle.finding.specs.declared.Found.{Found}
+use Rattle.places.specs.declared.Found.{Found}
 use Rattle.ahead.specs.Ahead.{jumpedTo}
 use Rattle.ahead.proofs.jumped_to.Statement.{statement}
 use Rattle.ahead.proofs.jumped_to.Tie as tie

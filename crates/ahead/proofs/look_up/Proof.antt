@@ -28,7 +28,7 @@ returns-5 c = c .called-at .ensures ∙ rw (c .before .find-program .ensures, c 
 
 returns-6 : tie.Need-returns-6
 unfolding lookedUp
-returns-6 c = c .jumped-to .ensures ∙ rw (c .before .find-block .ensures, c .before .before .before .next2 .given .1)
+returns-6 c = c .jumped-to .ensures ∙ rw (c .before .find-block .ensures, c .before .before .before .before .next2 .given .1)
 
 returns-7 : tie.Need-returns-7
 unfolding lookedUp

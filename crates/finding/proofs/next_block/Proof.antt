@@ -10,8 +10,8 @@ use Rattle.block.specs.Words.{StartIn}
 use Rattle.block.specs.declared.words.LineStart.{LineStart}
 use Rattle.block.proofs.Lines.{headFrom}
 use Rattle.finding.specs.declared.Here.{Here}
-use Rattle.finding.specs.declared.Found.{Found}
-use Rattle.finding.specs.declared.Found.the-variants.{At, Nowhere}
+use Rattle.places.specs.declared.Found.{Found}
+use Rattle.places.specs.declared.Found.the-variants.{At, Nowhere}
 use Rattle.finding.specs.declared.Sought.the-variants.{AnyBlock}
 use Rattle.finding.specs.Finding.{hereOf, foundBy, firstBlock, nextBlock}
 use Rattle.finding.proofs.Searching.{seek-end, first-more, found-is, found-in}

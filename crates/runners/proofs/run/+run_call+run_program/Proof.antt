@@ -49,7 +49,7 @@ run-call-Inv-loop tape table set first buf₀ program calls times now₀ n₀ bu
     Going.Repeating (taskOf tape table set first (length buf₀)) program calls times buf₀ now₀ buf now n
     × Ready (taskOf tape table set first (length buf₀)) (length buf₀)
     × (now₀ .«blocks_left» ≤ blocksInAll)
-    × (program ≤ length tape)
+    × (program .line ≤ length tape)
     × (calls ≡ 0 → ⊥)
 
 abbrev run-call-μ-loop : run-call-lts.MeasureT-loop
@@ -60,7 +60,7 @@ run-program-Inv-loop tape table set first buf₀ program calls now₀ at₀ buf 
     Going.Going (taskOf tape table set first (length buf₀)) program calls buf₀ now₀ buf now at
     × Ready (taskOf tape table set first (length buf₀)) (length buf₀)
     × (now₀ .«blocks_left» ≤ blocksInAll)
-    × (program ≤ length tape)
+    × (program .line ≤ length tape)
 
 abbrev run-program-μ-loop : run-program-lts.MeasureT-loop
 run-program-μ-loop tape table set first buf₀ program calls now₀ at₀ buf now at = now .«blocks_left»

@@ -13,7 +13,7 @@ use Rattle.tape.specs.Lines.{lines}
 use Rattle.finding.specs.Finding.{firstBlock, blockAt, NextIn, BlockIn}
 use Rattle.finding.specs.declared.BlockAt.{BlockAt}
 use Rattle.finding.specs.declared.NextBlock.{NextBlock}
-use Rattle.finding.specs.declared.Found.the-variants.{At}
+use Rattle.places.specs.declared.Found.the-variants.{At}
 use Rattle.steps.specs.declared.step.StepDone.{StepDone}
 use Rattle.steps.specs.Steps.{Task, taskOf}
 use Rattle.steps.specs.Meets.{Needs, Stands, BlockMeets}
@@ -28,7 +28,7 @@ task s = let a = s .args in taskOf (now (a .tape)) (now (a .table)) (a .set) (a 
 -- the block line that was found
 module _ (x : tie.After-next) where
   abbrev begun : tie.Start
-  begun = x .before .before .before .before .before
+  begun = x .before .before .before .before .before .before
 
   abbrev line : BlockAt
   line = x .next .given .0 .0
@@ -81,7 +81,7 @@ do-block-requires c κs = let x = c .before .before .before .before .before .bef
 returns-2 : tie.Need-returns-2
 returns-2 c =
     let n = c .before .before in
-    let s = n .before .before .before in
+    let s = n .before .before .before .before in
     let a = s .args in
     step-ended (task s) (now (a .buf)) (a .frame) (a .run) (s .pre)
     (found-none (now (a .tape)) (firstBlock (lines (now (a .tape)) (a .frame .at))) (n .next-block .ensures .0) (c .enum-told .given .1))
