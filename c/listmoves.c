@@ -18,6 +18,8 @@ static const int32_t settings[TM02_SETTINGS] = {
     [TM02_SET_EMPTY_CUTS] = 1,     [TM02_SET_POINTS] = 0,
 };
 
+static uint64_t places[TM02_MOST_PLACES];
+
 static uint8_t list[TM02_BUFFER_SIZE];
 
 /* The list of a complete run is never refused: its records are read one after the other. */
@@ -43,7 +45,8 @@ int main(int argc, char **argv) {
         perror(name != NULL ? name : "standard input");
         return 2;
     }
-    uint64_t answer = tm02_interpret(tape, length, table, TM02_TABLE, settings, TM02_SETTINGS, list, sizeof list);
+    uint64_t answer = tm02_interpret(tape, length, table, TM02_TABLE, settings, TM02_SETTINGS, places, TM02_MOST_PLACES,
+                                     list, sizeof list);
     size_t used = TM02_HEADER_SIZE + (size_t)TM02_RECORD_SIZE * tm02_count(answer);
     if (tm02_alarm(answer) != 0) {
         printf("ALARM %u %u %u\n", tm02_alarm(answer), tm02_place(answer), tm02_count(answer));

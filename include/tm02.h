@@ -37,6 +37,11 @@ enum { TM02_TABLE = 208 };
 /* The longest tape that is read. */
 enum { TM02_LONGEST_TAPE = 65535 };
 
+/* The table of places, which the call fills while it reads the tape: one entry for each program line and each block that was read and accepted. An entry is program x 2^32 + slot x 2^16 + place on
+   the tape; the slot is 0 for the program's line and the block's number plus 1 for a block. The entries ascend. TM02_MOST_PLACES entries do for every tape; with fewer, a tape that has more such
+   lines is alarm 22. */
+enum { TM02_MOST_PLACES = 21845 };
+
 /* The list: a header, and then the records. A buffer of TM02_BUFFER_SIZE bytes has room for every list. */
 enum {
     TM02_HEADER_SIZE = 8,
@@ -90,7 +95,8 @@ enum {
     TM02_ALARM_OUTSIDE_LIMITS = 18,
     TM02_ALARM_BAD_LENGTHS = 19,
     TM02_ALARM_NO_ROOM = 20,
-    TM02_ALARM_MISSING_POINT = 21
+    TM02_ALARM_MISSING_POINT = 21,
+    TM02_ALARM_PLACES_TOO_SHORT = 22
 };
 
 /* Runs a tape. settings: main, lowest subroutine, retract, start X, start Z, X lowest, X highest, Z lowest, Z highest, empty cuts, points.
@@ -99,14 +105,18 @@ enum {
    Where the list is complete, its header and its records are at the front of the buffer, and the place is 0. On an alarm the records of the blocks before it stand behind the header's
    place, and no header is written: an older one may still stand there, so go by the answer alone. All other bytes of the buffer are as they came. The bits above 39 are 0.
 
-   No number has to be checked before the call: settings_len other than 11, table_len other than 208 or a number out of its range is alarm 1. The caller owes what C cannot check: no
-   pointer is null, not even where its length is 0; each points to as many elements as its length says; table and settings are aligned as int32_t; the buffer overlaps none of the other
-   three; and nothing else writes to any of them, or reads the buffer, during the call.
+   After every answer the table of places holds the lines read and accepted at its front (after 1 to 4 none, after 5 to 9, 21 and 22 those before the line at fault, else all up to the end of
+   reading), and all its other entries are as they came. What it held before the call does not matter. The answer does not say how many entries are filled.
 
-   The call takes no heap and has no data of its own. It took 39,272 bytes of stack ten calls deep, measured with the archive of this version: give it 64 KiB. A run ends after 20,000
-   blocks at the latest, but a block that jumps or calls searches its program or the tape: do not call it from an interrupt. */
+   No number has to be checked before the call: settings_len other than 11, table_len other than 208 or a number out of its range is alarm 1. The caller owes what C cannot check: no
+   pointer is null, not even where its length is 0; each points to as many elements as its length says; table and settings are aligned as int32_t and places as uint64_t; places and the buffer overlap none of the
+   others; and nothing else writes to any of them, or reads places or the buffer, during the call.
+
+   The call takes no heap and has no data of its own. It took 13,271 bytes of stack ten calls deep, measured with the archive of this version: give it 32 KiB. A run ends after 20,000
+   blocks at the latest: do not call it from an interrupt. */
 uint64_t tm02_interpret(const uint8_t *tape, size_t tape_len, const int32_t *table, size_t table_len,
-                        const int32_t *settings, size_t settings_len, uint8_t *buf, size_t buf_len);
+                        const int32_t *settings, size_t settings_len, uint64_t *places, size_t places_len,
+                        uint8_t *buf, size_t buf_len);
 
 /* The parts of an answer. */
 static inline unsigned tm02_count(uint64_t answer) { return (unsigned)(answer & 0xffff); }

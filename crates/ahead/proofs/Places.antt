@@ -1,28 +1,30 @@
--- Laws of the places that the runner goes to: each is that of a line of the tape.
+-- Laws of the places that the runner goes to: each is that of a line of the tape, and is the same by the table of places and by the walk.
 -- Assumes nothing.
-use mathlib.Core.Path.{_≡_, refl}
-use mathlib.Core.Bool.{false, _||_}
+use mathlib.Core.Path.{_≡_, refl, ap, subst}
+use mathlib.Core.Bool.{false, cond, _||_}
 use mathlib.Core.List.{List, [], _∷_}
-use Prim.Native.Nat.{ℕ, zero, suc, _<_}
+use Prim.Native.Nat.{ℕ, zero, suc, _<_, _≤_}
+use native.Mathlib.Omega.{arith}
 use lib.Dec.{ltb, eqb}
 use lib.ListN.{length}
 use borrow.Author.Tests.{ltb-true}
+use Rattle.alarms.specs.Numbers.{programMissing}
 use Rattle.alarms.specs.Given.{IsAlarm}
 use Rattle.tape.specs.Lines.{Text, lineAt, linesUp, lines}
 use Rattle.numbers.proofs.Bounds.{cond-ind}
 use Rattle.block.specs.Words.{headOf}
 use Rattle.settings.specs.Wrong.{highestSubroutine}
 use Rattle.settings.specs.declared.control.Settings.{Settings}
-use Rattle.finding.specs.Finding.{hereOf, foundBy, seekLine, findProgram, firstBlock, blockOfProgram}
+use Rattle.finding.specs.Finding.{Sought, Program, Block, AnyBlock, hereOf, foundBy, seekLine, findProgram, firstBlock, blockOfProgram}
 use Rattle.finding.specs.declared.Here.{Here}
 use Rattle.finding.specs.declared.Here.the-variants as here
-use Rattle.finding.specs.declared.Sought.{Sought}
-use Rattle.finding.specs.declared.Sought.the-variants.{Program, Block as OfNumber, AnyBlock}
 use Rattle.places.specs.declared.Found.{Found}
 use Rattle.places.specs.declared.Found.the-variants.{At, Nowhere}
 use Rattle.state.specs.declared.request.Request.{Request}
 use Rattle.state.specs.declared.request.Request.the-variants as next
-use Rattle.ahead.specs.Ahead.{mostCalls, calledAt, jumpedTo, lookedUp}
+use Rattle.finding.specs.Finds.{Finds}
+use Rattle.ahead.specs.Ahead.{mostCalls, calledAt, jumpedTo, lookedBy, lookedUp, lookedUpIn, FoundAt}
+use Rattle.ahead.specs.declared.ProgramAt.{ProgramAt}
 use Rattle.ahead.specs.declared.Frame.{Frame}
 use Rattle.ahead.specs.declared.Onward.{Onward}
 use Rattle.ahead.specs.declared.Onward.the-variants.{On, Call, Jump, Return, End, Stop}
@@ -65,7 +67,7 @@ program-on n tape p = sought-on (Program n) tape p
 
 block-on : (n : ℕ) (tape : List ℕ) (program : ℕ) → FoundIn (length tape) (blockOfProgram n tape program)
 unfolding blockOfProgram
-block-on n tape program = sought-on (OfNumber n) tape (lineAt tape program .after)
+block-on n tape program = sought-on (Block n) tape (lineAt tape program .after)
 
 pub first-on : (tape : List ℕ) (p : ℕ) → FoundIn (length tape) (firstBlock (lines tape p))
 first-on tape p = sought-on AnyBlock tape p
@@ -90,7 +92,7 @@ jumped-on n Nowhere r h = refl
 jumped-on n (At p) r h = h
 
 pub looked-on : (tape : List ℕ) (set : Settings) (first : ℕ) (r : Frame) (n : Request) → OnwardOn (length tape) (lookedUp tape set first r n)
-unfolding lookedUp
+unfolding lookedUp lookedBy
 looked-on tape set first r next.On = tt
 looked-on tape set first r (next.Call n times) =
     let f = findProgram n (lines tape first) in
@@ -98,3 +100,46 @@ looked-on tape set first r (next.Call n times) =
 looked-on tape set first r (next.Jump n) = jumped-on (length tape) (blockOfProgram n tape (r .program .line)) r (block-on n tape (r .program .line))
 looked-on tape set first r next.Return = cond-ind (OnwardOn (length tape)) (eqb (r .«calls_left») mostCalls) _ Return (λ _. refl) tt
 looked-on tape set first r next.End = cond-ind (OnwardOn (length tape)) (eqb (r .«calls_left») mostCalls) End _ (λ _. tt) refl
+
+-- ---- a program that is called was found
+abbrev pub CallFound : List ℕ → ℕ → Onward → Type 0
+CallFound tape first On = Unit {0}
+CallFound tape first (Call p times) = FoundAt tape first p
+CallFound tape first (Jump p) = Unit {0}
+CallFound tape first Return = Unit {0}
+CallFound tape first End = Unit {0}
+CallFound tape first (Stop alarm place) = Unit {0}
+
+called-found : (tape : List ℕ) (first : ℕ) (f : Found) (k : ℕ) (r : Frame) (times : ℕ) → findProgram k (lines tape first) ≡ f → CallFound tape first (calledAt f k r times)
+unfolding calledAt
+called-found tape first Nowhere k r times h = tt
+called-found tape first (At p) k r times h = cond-ind (CallFound tape first) (eqb (r .«calls_left») 0) _ (Call (record { number = k; line = p }) times) (λ _. tt) h
+
+pub looked-found : (tape : List ℕ) (set : Settings) (first : ℕ) (r : Frame) (n : Request) → CallFound tape first (lookedUp tape set first r n)
+unfolding lookedUp lookedBy jumpedTo
+looked-found tape set first r next.On = tt
+looked-found tape set first r (next.Call n times) =
+    let f = findProgram n (lines tape first) in
+    cond-ind (CallFound tape first) (ltb n (set .«lowest_subroutine») || ltb highestSubroutine n) _ (calledAt f n r times) (λ _. tt) (called-found tape first f n r times refl)
+looked-found tape set first r (next.Jump n) = by (blockOfProgram n tape (r .program .line))
+  where
+    by : (f : Found) → CallFound tape first (jumpedTo f r)
+    by Nowhere = tt
+    by (At p) = tt
+looked-found tape set first r next.Return = cond-ind (CallFound tape first) (eqb (r .«calls_left») mostCalls) _ Return (λ _. tt) tt
+looked-found tape set first r next.End = cond-ind (CallFound tape first) (eqb (r .«calls_left») mostCalls) End _ (λ _. tt) tt
+
+-- and its line stands on the tape
+pub found-within : (tape : List ℕ) (first : ℕ) (p : ProgramAt) → FoundAt tape first p → p .line ≤ length tape
+found-within tape first p e = let l : p .line < length tape = subst (FoundIn (length tape)) e (program-on (p .number) tape first) in omega (arith, l)
+
+-- ---- THE LAW: what is looked up in the table of places is what the walk along the tape finds
+pub looked-same : (row tape : List ℕ) (first : ℕ) → Finds row tape first → (set : Settings) (f : Frame) → FoundAt tape first (f .program) → (n : Request)
+    → lookedUpIn row set f n ≡ lookedUp tape set first f n
+unfolding lookedUpIn lookedUp lookedBy
+looked-same row tape first t set f h next.On = refl
+looked-same row tape first t set f h (next.Call n times) =
+    ap (λ (x : Found). cond (ltb n (set .«lowest_subroutine») || ltb highestSubroutine n) (Stop programMissing (f .at)) (calledAt x n f times)) (t .programs n)
+looked-same row tape first t set f h (next.Jump n) = ap (λ (x : Found). jumpedTo x f) (t .blocks (f .program .number) (f .program .line) n h)
+looked-same row tape first t set f h next.Return = refl
+looked-same row tape first t set f h next.End = refl

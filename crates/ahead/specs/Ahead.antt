@@ -1,5 +1,6 @@
 -- What lies ahead of a block. 01: "At most ten calls deep. M17 returns. G27 goes to the block numbered L of the same program." Alarms: 14 "M17 in the main
 -- program, M30 in a subprogram", 10 "called number outside lowest subroutine to 255 (001: alarm 630) or missing", 11 "jump target missing", 12 "eleventh call deep".
+use mathlib.Core.Path.{_≡_}
 use mathlib.Core.Bool.{cond, _||_}
 use mathlib.Core.List.{List}
 use Prim.Native.Nat.{ℕ}
@@ -9,6 +10,7 @@ use Rattle.tape.specs.Lines.{lines}
 use Rattle.settings.specs.Wrong.{highestSubroutine}
 use Rattle.settings.specs.declared.control.Settings.{Settings}
 use Rattle.finding.specs.Finding.{findProgram, blockOfProgram}
+use Rattle.places.specs.Places.{programIn, blockIn}
 use Rattle.places.specs.declared.Found.{Found}
 use Rattle.places.specs.declared.Found.the-variants.{At, Nowhere}
 use Rattle.state.specs.declared.request.Request.{Request}
@@ -36,11 +38,23 @@ unfoldable pub jumpedTo : Found → Frame → Onward
 jumpedTo Nowhere f = Stop blockMissing (f .at)
 jumpedTo (At p) f = Jump p
 
--- what the block at the frame's place asks for. The third: the place of the tape's first line
+-- what the block at the frame's place asks for, where a program and a block of the present one are found so
+unfoldable pub lookedBy : (ℕ → Found) → (ℕ → Found) → Settings → Frame → Request → Onward
+lookedBy program block set f next.On = On
+lookedBy program block set f (next.Call n times) =
+    cond (ltb n (set .«lowest_subroutine») || ltb highestSubroutine n) (Stop programMissing (f .at)) (calledAt (program n) n f times)
+lookedBy program block set f (next.Jump n) = jumpedTo (block n) f
+lookedBy program block set f next.Return = cond (eqb (f .«calls_left») mostCalls) (Stop wrongEnd (f .at)) Return
+lookedBy program block set f next.End = cond (eqb (f .«calls_left») mostCalls) End (Stop wrongEnd (f .at))
+
+-- WHAT IT ASKS FOR, by a walk along the tape. The third: the place of the tape's first line
 unfoldable pub lookedUp : List ℕ → Settings → ℕ → Frame → Request → Onward
-lookedUp tape set first f next.On = On
-lookedUp tape set first f (next.Call n times) =
-    cond (ltb n (set .«lowest_subroutine») || ltb highestSubroutine n) (Stop programMissing (f .at)) (calledAt (findProgram n (lines tape first)) n f times)
-lookedUp tape set first f (next.Jump n) = jumpedTo (blockOfProgram n tape (f .program .line)) f
-lookedUp tape set first f next.Return = cond (eqb (f .«calls_left») mostCalls) (Stop wrongEnd (f .at)) Return
-lookedUp tape set first f next.End = cond (eqb (f .«calls_left») mostCalls) End (Stop wrongEnd (f .at))
+lookedUp tape set first f n = lookedBy (λ k. findProgram k (lines tape first)) (λ k. blockOfProgram k tape (f .program .line)) set f n
+
+-- the same by the row of a table of places, as the code does it
+unfoldable pub lookedUpIn : List ℕ → Settings → Frame → Request → Onward
+lookedUpIn row set f n = lookedBy (λ k. programIn k row) (λ k. blockIn (f .program .number) k row) set f n
+
+-- ---- what is known of a program of the tape: the walk finds its line where it is said to stand
+abbrev pub FoundAt : List ℕ → ℕ → ProgramAt → Type 0
+FoundAt tape first p = findProgram (p .number) (lines tape first) ≡ At (p .line)

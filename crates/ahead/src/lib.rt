@@ -4,8 +4,9 @@ use settings::control::Settings;
 use state::request::Request;
 ghost use mathlib.Core.Path.{_≡_};
 ghost use Prim.Native.Nat.{_≤_};
-ghost use lib.ListN.{length};
-ghost use Rattle.ahead.specs.Ahead.{calledAt, jumpedTo, lookedUp};
+ghost use lib.ListN.{length, take};
+ghost use Rattle.places.specs.Places.{Row};
+ghost use Rattle.ahead.specs.Ahead.{calledAt, jumpedTo, lookedUpIn};
 
 // "At most ten calls deep": the calls that are left in the main program.
 pub const MOST_CALLS: u32 = 10;
@@ -59,10 +60,10 @@ fn jumped_to(found: Found, frame: Frame) -> Onward
     }
 }
 
-// What the block at the frame's place asks for: alarms 14, 10, 11 and 12.
-pub fn look_up(tape: &[u8], set: Settings, first: usize, frame: Frame, next: Request) -> Onward
-    requires { ⌜ (first ≤ length (now tape)) × (frame .program .line ≤ length (now tape)) ⌝ }
-    ensures { λ r. ⌜ r ≡ lookedUp (now (tape .entry)) set first frame next ⌝ }
+// What the block at the frame's place asks for, looked up in the table of places: alarms 14, 10, 11 and 12.
+pub fn look_up(places: &[u64], count: usize, set: Settings, frame: Frame, next: Request) -> Onward
+    requires { ⌜ (count ≤ length (now places)) × Row (take count (now places)) ⌝ }
+    ensures { λ r. ⌜ r ≡ lookedUpIn (take count (now (places .entry))) set frame next ⌝ }
 {
     match next {
         Request::On => Onward::On,
@@ -70,12 +71,12 @@ pub fn look_up(tape: &[u8], set: Settings, first: usize, frame: Frame, next: Req
             if (n < set.lowest_subroutine) | (settings::control::HIGHEST_SUBROUTINE < n) {
                 return Onward::Stop(alarms::PROGRAM_MISSING, frame.at);
             }
-            let found = finding::find_program(tape, first, n);
+            let found = places::find_program(places, count, n);
             called_at(found, n, frame, times)
         }
         Request::Jump(n) => {
             let program = frame.program;
-            let found = finding::find_block(tape, program.line, n);
+            let found = places::find_block(places, count, program.number, n);
             jumped_to(found, frame)
         }
         Request::Return => {

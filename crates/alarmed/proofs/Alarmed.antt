@@ -15,7 +15,8 @@ use Rattle.settings.specs.Wrong.{settingsWrong}
 use Rattle.settings.specs.declared.control.Settings.{Settings}
 use Rattle.tape.specs.Lines.{seek, opensTape, lines}
 use Rattle.block.specs.Slots.{anyOf}
-use Rattle.reading.specs.Reading.{nothingRead, readLines, readOf}
+use Rattle.reading.specs.Reading.{nothingRead}
+use Rattle.reading.specs.Filling.{nothingFilled, Readings, readWith}
 use Rattle.reading.specs.declared.read.Read.{Read}
 use Rattle.reading.specs.declared.read.Read.the-variants as read
 use Rattle.finding.specs.Finding.{findProgram}
@@ -30,12 +31,12 @@ use Rattle.runners.specs.declared.run.Ending.the-variants.{Returned, Ended, Sto
 use Rattle.answers.specs.Answers.{answerBy, startOf}
 use Rattle.answers.specs.declared.Answer.{Answer}
 use Rattle.answers.specs.declared.Answer.the-variants.{Complete, Alarm}
-use Rattle.interpreter.specs.Answers.{Result, mainAt, refused, resultOf, mainBy, mainRun, readThen, longestTape, interpretation}
+use Rattle.interpreter.specs.Answers.{Result, refused, resultOf, mainAt, mainBy, mainRun, readThen, longestTape, interpretationBy, interpretation}
 use Rattle.alarmed.specs.Order.{Passes, none, no, Refused, yes, later}
 use Rattle.alarmed.specs.Tests.{Input, settingsBad, tooLong, tooShort, unopened, inputOrder}
 use Rattle.alarmed.specs.Walking.{Standing, standing, Walk, RunRefused}
-use Rattle.alarmed.specs.Alarmed.{firstOf, linesOf, LineRefused, refuses, ReadTo, all, ended, taskTo, mainIn, begins, Stands, input, line, main, run, list, Free, IsComplete, answered}
-use Rattle.alarmed.proofs.Lines.{Came, came}
+use Rattle.alarmed.specs.Alarmed.{atFirst, firstOf, linesOf, LineRefused, refuses, ReadTo, all, ended, taskTo, mainIn, begins, Stands, input, line, main, run, list, Free, IsComplete, answered}
+use Rattle.alarmed.proofs.Lines.{Came, readFrom, came}
 use Rattle.alarmed.proofs.Lines as lines-of
 use Rattle.alarmed.proofs.Never.{never-returns}
 use Rattle.alarmed.proofs.Walks.{CameTo, program-walks}
@@ -68,17 +69,17 @@ module _ (i : Input) where
 
     module _ (p : ℕ) (found : mainIn i end ≡ At p) where
       abbrev x : Ran
-      x = programRun t (mainAt (t .settings) p) mostCalls (startOf (i .settings))
+      x = programRun t (mainAt (i .settings) p) mostCalls (startOf (i .settings))
 
       by-ending : (h : Ending) → x .outcome .ending ≡ h → CameTo t (begins i end p) [] (x .steps) (x .outcome .run) h → Stands i (answerBy h (x .outcome .run .count)) (x .steps)
       unfolding answerBy
-      by-ending Returned e c = absurd (never-returns t (mainAt (t .settings) p) (startOf (i .settings)) e)
+      by-ending Returned e c = absurd (never-returns t (mainAt (i .settings) p) (startOf (i .settings)) e)
       by-ending Ended e c = list well to found c refl
       by-ending (Stopped alarm place) e c = run well to found (c .walk) (c .refused)
 
       run-stands : On (resultOf x)
       unfolding resultOf
-      run-stands = by-ending (x .outcome .ending) refl (program-walks t (mainAt (t .settings) p) (startOf (i .settings)) (omega arith))
+      run-stands = by-ending (x .outcome .ending) refl (program-walks t (mainAt (i .settings) p) (startOf (i .settings)) (omega arith))
 
     main-stands : (g : Found) → mainIn i end ≡ g → On (mainBy t g)
     unfolding mainBy
@@ -90,7 +91,7 @@ module _ (i : Input) where
     read-stands = main-stands (mainIn i end) refl
 
   -- ---- the reading
-  lines-stand : Passes i inputOrder → (r : Read) → Came i (firstOf (i .tape)) (length (i .tape)) nothingRead (linesOf (i .tape)) r → On (readThen (i .tape) (i .table) (i .settings) (i .bytes) r)
+  lines-stand : Passes i inputOrder → (r : Read) → Came i (firstOf (i .tape)) (length (i .tape)) atFirst (linesOf (i .tape)) r → On (readThen (i .tape) (i .table) (i .settings) (i .bytes) r)
   unfolding readThen
   lines-stand well r (lines-of.whole a) = read-stands well (length (i .tape)) (all a)
   lines-stand well r (lines-of.ended {line = l} c p f) = read-stands well (l .after) (ended c p f)
@@ -98,14 +99,15 @@ module _ (i : Input) where
 
   -- ---- the whole
   pub stands : On (answered i)
-  unfolding interpretation settingsBad tooLong tooShort unopened readThen readOf
+  unfolding interpretation interpretationBy settingsBad tooLong tooShort unopened readThen readWith
   stands =
       let first = firstOf (i .tape) in
       by-test On (settingsWrong (i .table) (i .settings)) _ _ (λ e. input (yes e refl)) λ settings.
       by-test On (ltb longestTape (length (i .tape))) _ _ (λ e. input (later settings (yes e refl))) λ short.
       by-test On (ltb (i .bytes) headerSize) _ _ (λ e. input (later settings (later short (yes e refl)))) λ long.
-      by-test (λ r. On (readThen (i .tape) (i .table) (i .settings) (i .bytes) r)) (ltb first (length (i .tape))) (readLines (i .settings .points) first (length (i .tape)) nothingRead (linesOf (i .tape))) (read.Alarm noProgram 0)
+      let whole = readFrom i first (length (i .tape)) nothingRead nothingFilled (linesOf (i .tape)) in
+      by-test (λ r. On (readThen (i .tape) (i .table) (i .settings) (i .bytes) (r .read))) (ltb first (length (i .tape))) whole (record { read = read.Alarm noProgram 0; row = [] })
       (λ e.
-      lines-stand (no settings (no short (no long (no (ap not (sym (opens (i .tape)) ∙ e)) none)))) (readLines (i .settings .points) first (length (i .tape)) nothingRead (linesOf (i .tape)))
-      (came i first (length (i .tape)) nothingRead (linesOf (i .tape))))
+      lines-stand (no settings (no short (no long (no (ap not (sym (opens (i .tape)) ∙ e)) none)))) (whole .read)
+      (came i first (length (i .tape)) atFirst nothingFilled refl (linesOf (i .tape))))
       (λ e. input (later settings (later short (later long (yes (ap not (sym (opens (i .tape)) ∙ e)) refl)))))

@@ -13,7 +13,8 @@ use Rattle.moves.specs.Form.{headerSize}
 use Rattle.settings.specs.Wrong.{settingsWrong}
 use Rattle.tape.specs.Lines.{opensTape, lines}
 use Rattle.block.specs.Slots.{anyOf}
-use Rattle.reading.specs.Reading.{nothingRead, readLines, readOf}
+use Rattle.reading.specs.Reading.{nothingRead}
+use Rattle.reading.specs.Filling.{nothingFilled, readWith}
 use Rattle.reading.specs.declared.read.Read.{Read}
 use Rattle.reading.specs.declared.read.Read.the-variants as read
 use Rattle.finding.specs.Finding.{firstBlock}
@@ -28,13 +29,13 @@ use Rattle.runners.specs.declared.run.Ending.the-variants.{Returned, Ended, Sto
 use Rattle.answers.specs.Answers.{answerBy, startOf}
 use Rattle.answers.specs.declared.Answer.{Answer}
 use Rattle.answers.specs.declared.Answer.the-variants.{Complete, Alarm}
-use Rattle.interpreter.specs.Answers.{Result, mainAt, refused, resultOf, mainBy, mainRun, readThen, longestTape, interpretation}
+use Rattle.interpreter.specs.Answers.{Result, refused, resultOf, mainAt, mainBy, mainRun, readThen, longestTape, interpretationBy, interpretation}
 use Rattle.alarmed.specs.Order.{Passes, none, no, Refused, yes, later}
 use Rattle.alarmed.specs.Tests.{Input, settingsBad, tooLong, tooShort, unopened, inputOrder, blockOrder}
 use Rattle.alarmed.specs.Walking.{Open, Standing, standing, begun, after, stepAt, Walk, stay, step, RunRefused, block, early}
 use Rattle.alarmed.specs.Alarmed.{firstOf, linesOf, LineRefused, refuses, ReadTo, all, ended, taskTo, mainIn, begins, Stands, input, line, main, run, list, Free, IsComplete, answered, AlarmsStand}
 use Rattle.alarmed.proofs.Orders.{first, Above, passes-first, refused-first, refused-some}
-use Rattle.alarmed.proofs.Lines.{accepted-all, reached-ended, reached-refused}
+use Rattle.alarmed.proofs.Lines.{readFrom, accepted-all, reached-ended, reached-refused}
 use Rattle.alarmed.proofs.Blocks.{above}
 use Rattle.alarmed.proofs.Never.{never-returns}
 use Rattle.alarmed.proofs.Walks.{CameTo, program-walks}
@@ -125,28 +126,28 @@ above-input = refl
 -- ---- every answer
 module _ (i : Input) where
   abbrev lines-read : Read
-  lines-read = readLines (i .settings .points) (firstOf (i .tape)) (length (i .tape)) nothingRead (linesOf (i .tape))
+  lines-read = readFrom i (firstOf (i .tape)) (length (i .tape)) nothingRead nothingFilled (linesOf (i .tape)) .read
 
   abbrev then : Read → Result
   then r = readThen (i .tape) (i .table) (i .settings) (i .bytes) r
 
   begun-reading : Passes i inputOrder → answered i ≡ then lines-read
-  unfolding interpretation settingsBad tooLong tooShort unopened readOf
+  unfolding interpretation interpretationBy settingsBad tooLong tooShort unopened readWith
   begun-reading (no a (no b (no c (no d none)))) = rw (a, b, c, opens (i .tape) ∙ not-false (anyOf opensTape (i .tape)) d) refl
 
   early-alarm : {n : ℕ} → Refused i n inputOrder → answered i ≡ refused n 0
-  unfolding interpretation settingsBad tooLong tooShort unopened readOf readThen
+  unfolding interpretation interpretationBy settingsBad tooLong tooShort unopened readWith readThen
   early-alarm (yes a h) = rw a (ap (λ (m : ℕ). refused m 0) (sym h))
   early-alarm (later a (yes b h)) = rw (a, b) (ap (λ (m : ℕ). refused m 0) (sym h))
   early-alarm (later a (later b (yes c h))) = rw (a, b, c) (ap (λ (m : ℕ). refused m 0) (sym h))
   early-alarm (later a (later b (later c (yes d h)))) = rw (a, b, c, opens (i .tape) ∙ not-true (anyOf opensTape (i .tape)) d) (ap (λ (m : ℕ). refused m 0) (sym h))
 
   read-to : {end : ℕ} → ReadTo i end → lines-read ≡ read.Whole (firstOf (i .tape)) end
-  read-to (all a) = accepted-all i (firstOf (i .tape)) (length (i .tape)) a
-  read-to (ended c p l) = reached-ended i (firstOf (i .tape)) (length (i .tape)) c p l
+  read-to (all a) = accepted-all i (firstOf (i .tape)) (length (i .tape)) nothingFilled refl a
+  read-to (ended c p l) = reached-ended i (firstOf (i .tape)) (length (i .tape)) nothingFilled refl c p l
 
   line-alarm : {n place : ℕ} → LineRefused i n place → lines-read ≡ read.Alarm n place
-  line-alarm (refuses c r) = reached-refused i (firstOf (i .tape)) (length (i .tape)) c r
+  line-alarm (refuses c r) = reached-refused i (firstOf (i .tape)) (length (i .tape)) nothingFilled refl c r
 
   refused-here : {n place : ℕ} → Passes i inputOrder → LineRefused i n place → answered i ≡ refused n place
   unfolding readThen
@@ -162,17 +163,17 @@ module _ (i : Input) where
     t = taskTo i end
 
     abbrev x : Ran
-    x = programRun t (mainAt (t .settings) p) mostCalls (startOf (i .settings))
+    x = programRun t (mainAt (i .settings) p) mostCalls (startOf (i .settings))
 
     by-ending : (h : Ending) → x .outcome .ending ≡ h → CameTo t (begins i end p) [] (x .steps) (x .outcome .run) h → To t (begins i end p) (answerBy h (x .outcome .run .count)) (x .steps)
     unfolding answerBy
-    by-ending Returned e c = absurd (never-returns t (mainAt (t .settings) p) (startOf (i .settings)) e)
+    by-ending Returned e c = absurd (never-returns t (mainAt (i .settings) p) (startOf (i .settings)) e)
     by-ending Ended e c = over-to t c refl
     by-ending (Stopped alarm place) e c = refused-to t (c .walk) (c .refused)
 
     worked-out : To t (begins i end p) (resultOf x .answer) (resultOf x .steps)
     unfolding resultOf
-    worked-out = by-ending (x .outcome .ending) refl (program-walks t (mainAt (t .settings) p) (startOf (i .settings)) (omega arith))
+    worked-out = by-ending (x .outcome .ending) refl (program-walks t (mainAt (i .settings) p) (startOf (i .settings)) (omega arith))
 
     run-alone : {a : Answer} {v : List Step} → answered i ≡ mainBy t (At p) → To t (begins i end p) a v → Same a v (answered i)
     unfolding mainBy

@@ -43,7 +43,7 @@ use Rattle.writing.specs.Writes.{writes, otherCount}
 use Rattle.writing.proofs.Chain.{writes-length}
 use Rattle.verdicts.specs.Verdicts.{sendingOf, deedIn, asksIn, askedIn, alarmIn}
 use Rattle.machine.specs.Blocks.{doneRecords}
-use Rattle.ahead.specs.Ahead.{mostCalls, calledAt, jumpedTo, lookedUp}
+use Rattle.ahead.specs.Ahead.{mostCalls, calledAt, jumpedTo, lookedBy, lookedUp}
 use Rattle.ahead.specs.declared.Frame.{Frame}
 use Rattle.ahead.specs.declared.ProgramAt.{ProgramAt}
 use Rattle.ahead.specs.declared.Onward.{Onward}
@@ -205,7 +205,7 @@ module _ (t : Task) (f : Frame) (deep : ℕ) (known : deep + f .«calls_left» �
   end-first false = refl
 
   looked-first : (q : Request) → askedFirst q ≡ else (lookedUp (t .tape) (t .settings) (t .first) f q)
-  unfolding endsBadly calls jumps deepens lookedUp alarmBy
+  unfolding endsBadly calls jumps deepens lookedUp lookedBy alarmBy
   looked-first asks.On = refl
   looked-first (asks.Call n times) = call-first (ltb n (t .settings .«lowest_subroutine») || ltb highestSubroutine n) (findProgram n (lines (t .tape) (t .first))) n times
   looked-first (asks.Jump n) = jump-first (blockOfProgram n (t .tape) (f .program .line))

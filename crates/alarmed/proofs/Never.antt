@@ -16,7 +16,7 @@ use Rattle.places.specs.declared.Found.the-variants.{At, Nowhere}
 use Rattle.state.specs.Request.{requestOf}
 use Rattle.state.specs.declared.request.Request.{Request}
 use Rattle.state.specs.declared.request.Request.the-variants as asks
-use Rattle.ahead.specs.Ahead.{mostCalls, onto, calledAt, jumpedTo, lookedUp}
+use Rattle.ahead.specs.Ahead.{mostCalls, onto, calledAt, jumpedTo, lookedBy, lookedUp}
 use Rattle.ahead.specs.declared.Frame.{Frame}
 use Rattle.ahead.specs.declared.ProgramAt.{ProgramAt}
 use Rattle.ahead.specs.declared.Onward.{Onward}
@@ -54,7 +54,7 @@ module _ (t : Task) (f : Frame) where
   jump-uncalled (At p) h = h
 
   looked-uncalled : eqb (f .«calls_left») 0 ≡ true → (q : Request) → IsCall (lookedUp (t .tape) (t .settings) (t .first) f q) → ⊥
-  unfolding lookedUp
+  unfolding lookedUp lookedBy
   looked-uncalled e asks.On h = h
   looked-uncalled e (asks.Call n times) h =
       not-both IsCall (ltb n (t .settings .«lowest_subroutine») || ltb highestSubroutine n) (Stop programMissing (f .at)) (calledAt (findProgram n (lines (t .tape) (t .first))) n f times) (λ x. x)
@@ -96,7 +96,7 @@ module _ (t : Task) (f : Frame) (main : eqb (f .«calls_left») mostCalls ≡ tr
   jump-stays (At p) h = h
 
   looked-stays : (q : Request) → IsReturn (lookedUp (t .tape) (t .settings) (t .first) f q) → ⊥
-  unfolding lookedUp
+  unfolding lookedUp lookedBy
   looked-stays asks.On h = h
   looked-stays (asks.Call n times) h =
       not-both IsReturn (ltb n (t .settings .«lowest_subroutine») || ltb highestSubroutine n) (Stop programMissing (f .at)) (calledAt (findProgram n (lines (t .tape) (t .first))) n f times) (λ x. x)

@@ -17,7 +17,7 @@ use Rattle.places.specs.declared.Found.the-variants.{At, Nowhere}
 use Rattle.state.specs.Request.{requestOf}
 use Rattle.state.specs.declared.request.Request.{Request}
 use Rattle.state.specs.declared.request.Request.the-variants as asks
-use Rattle.ahead.specs.Ahead.{mostCalls, onto, calledAt, jumpedTo, lookedUp}
+use Rattle.ahead.specs.Ahead.{mostCalls, onto, calledAt, jumpedTo, lookedBy, lookedUp}
 use Rattle.ahead.specs.declared.Frame.{Frame}
 use Rattle.ahead.specs.declared.ProgramAt.{ProgramAt}
 use Rattle.ahead.specs.declared.Onward.{Onward}
@@ -114,7 +114,7 @@ module _ (t : Task) (f : Frame) (again : ℕ) (outer : List Open) (after : ℕ) 
   jump-leads (At p) = λ _. refl
 
   looked-leads : (q : Request) → Fine (lookedUp (t .tape) (t .settings) (t .first) f q) (goesOn t q after o outer)
-  unfolding lookedUp goesOn
+  unfolding lookedUp lookedBy goesOn
   looked-leads asks.On = λ _. refl
   looked-leads (asks.Call n times) =
       let g = findProgram n (lines (t .tape) (t .first)) in
@@ -182,13 +182,13 @@ module _ (t : Task) (calls : ℕ) (call : ProgramAt → ℕ → Run → Ran) (ca
         (step e (block-passes t g (length outer) known r free) stay))
 
 -- ---- repeats and calls
-module _ (t : Task) (p : ProgramAt) (back : List Open) (one : Run → Ran) (one-few : (n : ℕ) (r : Run) → r .«blocks_left» ≤ n → one r .outcome .run .«blocks_left» ≤ n)
-    (one-walks : (again : ℕ) (r : Run) → r .«blocks_left» ≤ blocksInAll → Walks t (opened t (p .line) again ∷ back) (runs t (p .line) again back) r (one r)) where
-  repeated-walk : (times : ℕ) (r : Run) → r .«blocks_left» ≤ blocksInAll → Walks t (runs t (p .line) times back) back r (repeated one times r)
+module _ (t : Task) (p : ℕ) (back : List Open) (one : Run → Ran) (one-few : (n : ℕ) (r : Run) → r .«blocks_left» ≤ n → one r .outcome .run .«blocks_left» ≤ n)
+    (one-walks : (again : ℕ) (r : Run) → r .«blocks_left» ≤ blocksInAll → Walks t (opened t p again ∷ back) (runs t p again back) r (one r)) where
+  repeated-walk : (times : ℕ) (r : Run) → r .«blocks_left» ≤ blocksInAll → Walks t (runs t p times back) back r (repeated one times r)
   unfolding repeated runs
   repeated-walk zero r few = stay
   repeated-walk (suc times) r few =
-      walks-then t _ (runs t (p .line) times back) back r (one r) (λ s. repeated one times s) (one-walks times r few) (repeated-walk times (one r .outcome .run) (one-few blocksInAll r few))
+      walks-then t _ (runs t p times back) back r (one r) (λ s. repeated one times s) (one-walks times r few) (repeated-walk times (one r .outcome .run) (one-few blocksInAll r few))
 
 begun-enough : (n : ℕ) → n ≤ blocksInAll → n < enough
 unfolding enough
@@ -201,7 +201,7 @@ called-walks t zero some p times back deep r few = absurd (some refl)
 called-walks t (suc c) some p times back deep r few =
     let call : ProgramAt → ℕ → Run → Ran = λ q m u. called t c q m u in
     let one : Run → Ran = λ s. blocks call t enough (entry t p c) s in
-    repeated-walk t p back one (λ n s h. blocks-few t call (λ q m k u h. called-few t c q m k u h) enough (entry t p c) n s h)
+    repeated-walk t (p .line) back one (λ n s h. blocks-few t call (λ q m k u h. called-few t c q m k u h) enough (entry t p c) n s h)
     (λ again s h. blocks-walk t c call (λ q m n u h. called-few t c q m n u h) (λ e q m os d u h. called-walks t c e q m os d u h) again back (omega (arith, deep)) enough (entry t p c) refl s
     (begun-enough (s .«blocks_left») h) h) times r few
 

@@ -1,14 +1,13 @@
--- WHERE ALARMS COME, of every tape, table, settings and buffer: the other half of demand 2. An alarm of reading stands at the first line that is refused; one of the run at the block that follows the steps
+-- WHERE ALARMS COME, of every tape, table, settings, table of places and buffer: the other half of demand 2. An alarm of reading stands at the first line that is refused; one of the run at the block that follows the steps
 -- done; where nothing refuses, there is a list.
 use mathlib.Core.Path.{_≡_}
-use mathlib.Core.Bool.{Bool, true, false}
+use mathlib.Core.Bool.{Bool, true, false, cond}
 use mathlib.Core.List.{List, [], _∷_, _++_}
-use Prim.Native.Nat.{ℕ}
+use Prim.Native.Nat.{ℕ, _+_}
 use lib.IntN.{ℤ}
 use lib.ListN.{length, take}
 use Rattle.alarms.specs.Numbers.{programMissing}
 use Rattle.settings.specs.Points.{withPoints}
-use Rattle.settings.specs.declared.control.Settings.{Settings}
 use Rattle.tape.specs.Lines.{seekFrom, opensTape, Text, lines}
 use Rattle.block.specs.Words.{lineOf}
 use Rattle.reading.specs.Reading.{History, nothingRead, noted, endsWith}
@@ -21,7 +20,7 @@ use Rattle.answers.specs.declared.Answer.{Answer}
 use Rattle.answers.specs.declared.Answer.the-variants.{Complete, Alarm}
 use Rattle.interpreter.specs.Answers.{Result, interpretation}
 use Rattle.alarmed.specs.Order.{Passes, Refused}
-use Rattle.alarmed.specs.Tests.{Input, inputOrder, Line, lineOrder}
+use Rattle.alarmed.specs.Tests.{Input, inputOrder, Line, isEntry, lineOrder}
 use Rattle.alarmed.specs.Walking.{opened, Standing, standing, Walk, RunRefused}
 
 -- ---- READING
@@ -32,23 +31,31 @@ firstOf tape = seekFrom opensTape tape 0
 abbrev pub linesOf : List ℕ → List Text
 linesOf tape = lines tape (firstOf tape)
 
--- a line as it is judged behind what was read; what was read with it; and whether reading ends with it, "a line whose last word is M30"
-abbrev pub asLine : Input → History → Text → Line
-asLine i h t = record { given = i; text = t .bytes; history = h }
+-- what was read so far: the numbers, and how many program lines and blocks these are
+pub record Sofar : Type 0 where
+  pub history : History
+  pub entries : ℕ
 
-abbrev pub with : History → Text → History
-with h t = noted h (lineOf (t .bytes) .head)
+abbrev pub atFirst : Sofar
+atFirst = record { history = nothingRead; entries = 0 }
+
+-- a line as it is judged behind what was read; what was read with it; and whether reading ends with it, "a line whose last word is M30"
+abbrev pub asLine : Input → Sofar → Text → Line
+asLine i h t = record { text = t .bytes; history = h .history; entries = h .entries; points = i .settings .points; size = i .size }
+
+abbrev pub with : Sofar → Text → Sofar
+with h t = record { history = noted (h .history) (lineOf (t .bytes) .head); entries = h .entries + cond (isEntry (lineOf (t .bytes) .head)) 1 0 }
 
 abbrev pub isLast : Text → Bool
 isLast t = endsWith (lineOf (t .bytes) .head) (lineOf (t .bytes) .block .ends)
 
 -- lines that are accepted, one after the other, and with none of which reading ends: from what was read before them to what was read with them
-pub data Accepted (i : Input) : History → List Text → History → Type 0 where
-  none : {h : History} → Accepted i h [] h
-  one : {h k : History} {t : Text} {ts : List Text} → Passes (asLine i h t) lineOrder → isLast t ≡ false → Accepted i (with h t) ts k → Accepted i h (t ∷ ts) k
+pub data Accepted (i : Input) : Sofar → List Text → Sofar → Type 0 where
+  none : {h : Sofar} → Accepted i h [] h
+  one : {h k : Sofar} {t : Text} {ts : List Text} → Passes (asLine i h t) lineOrder → isLast t ≡ false → Accepted i (with h t) ts k → Accepted i h (t ∷ ts) k
 
 -- a line of some lines that is reached: every line before it is accepted. The fourth: what was read before it
-pub record Reached (i : Input) (h : History) (ts : List Text) (k : History) (line : Text) : Type 0 where
+pub record Reached (i : Input) (h : Sofar) (ts : List Text) (k : Sofar) (line : Text) : Type 0 where
   pub before : List Text
   pub behind : List Text
   pub are : ts ≡ before ++ (line ∷ behind)
@@ -56,15 +63,15 @@ pub record Reached (i : Input) (h : History) (ts : List Text) (k : History) (lin
 
 -- AN ALARM OF READING stands at the first byte of the first line that is refused
 pub data LineRefused (i : Input) : ℕ → ℕ → Type 0 where
-  refuses : {h : History} {line : Text} {n : ℕ} → Reached i nothingRead (linesOf (i .tape)) h line → Refused (asLine i h line) n lineOrder → LineRefused i n (line .place)
+  refuses : {h : Sofar} {line : Text} {n : ℕ} → Reached i atFirst (linesOf (i .tape)) h line → Refused (asLine i h line) n lineOrder → LineRefused i n (line .place)
 
 -- A TAPE IS READ up to a place: every line is accepted, to the end of the tape or to the end of a line with which reading ends
 pub data ReadTo (i : Input) : ℕ → Type 0 where
-  all : {h : History} → Accepted i nothingRead (linesOf (i .tape)) h → ReadTo i (length (i .tape))
-  ended : {h : History} {line : Text} → Reached i nothingRead (linesOf (i .tape)) h line → Passes (asLine i h line) lineOrder → isLast line ≡ true → ReadTo i (line .after)
+  all : {h : Sofar} → Accepted i atFirst (linesOf (i .tape)) h → ReadTo i (length (i .tape))
+  ended : {h : Sofar} {line : Text} → Reached i atFirst (linesOf (i .tape)) h line → Passes (asLine i h line) lineOrder → isLast line ≡ true → ReadTo i (line .after)
 
 -- ---- RUNNING
--- what a run is given, where the tape is read up to `end`; points are asked for where the tape is read, and not of a run
+-- what a run is given, where the tape is read up to `end`. Points are asked for where a tape is read, and a run has that setting off
 abbrev pub taskTo : Input → ℕ → Task
 taskTo i end = taskOf (take end (i .tape)) (i .table) (withPoints false (i .settings)) (firstOf (i .tape)) (i .bytes)
 
@@ -104,7 +111,7 @@ IsComplete (Alarm n place count) = ⊥
 
 -- THE STATEMENT, of every input i: its answer, with its steps, stands on what was judged and done; nothing else does; and where nothing refuses, it is a list
 abbrev pub answered : Input → Result
-answered i = interpretation (i .tape) (i .table) (i .settings) (i .bytes)
+answered i = interpretation (i .tape) (i .table) (i .settings) (i .size) (i .bytes)
 
 pub record AlarmsStand (i : Input) : Type 0 where
   pub stands : Stands i (answered i .answer) (answered i .steps)

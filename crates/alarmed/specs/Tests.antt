@@ -1,4 +1,4 @@
--- THE ORDERS OF THE ALARMS. 01: "1 to 4 in that order; then lines from the front, each 7, 5, 6, 8, 9; then 10 for the main; then blocks as run: 13, 14, 10, 11, 12, 15, 16, 17, 19, 18, 20." (02 takes 8 out, and puts 21 "after 5 and before 6".) A row for
+-- THE ORDERS OF THE ALARMS. 01: "1 to 4 in that order; then lines from the front, each 7, 5, 6, 8, 9; then 10 for the main; then blocks as run: 13, 14, 10, 11, 12, 15, 16, 17, 19, 18, 20." (02 takes 8 out, and puts 21 behind 5 and 22 behind 9.) A row for
 -- each alarm, a definition for each test, which is true where the input, the line or the block is to be refused. No test asks what another one has said.
 use mathlib.Core.Bool.{Bool, true, false, not, _&&_, _||_}
 use mathlib.Core.List.{List, [], _∷_}
@@ -6,7 +6,7 @@ use Prim.Native.Nat.{ℕ, _+_}
 use lib.Dec.{leb, ltb, eqb}
 use lib.IntN.{ℤ}
 use lib.ListN.{length}
-use Rattle.alarms.specs.Numbers.{badSettings, tapeTooLong, bufferTooShort, noProgram, badByteOrNumber, badLineStart, lineTooLong, wordRules, programMissing, blockMissing, tooDeep, tooManyBegun, wrongEnd, noMotion, notRapid, badFeed, outsideLimits, badLengths, noRoom, missingPoint}
+use Rattle.alarms.specs.Numbers.{badSettings, tapeTooLong, bufferTooShort, noProgram, badByteOrNumber, badLineStart, lineTooLong, missingPoint, wordRules, placesTooShort, programMissing, blockMissing, tooDeep, tooManyBegun, wrongEnd, noMotion, notRapid, badFeed, outsideLimits, badLengths, noRoom}
 use Rattle.whole.specs.Among.{among}
 use Rattle.moves.specs.Form.{headerSize}
 use Rattle.moves.specs.declared.record.Record.{Record}
@@ -20,7 +20,7 @@ use Rattle.block.specs.Words.{longestLine, lineOf}
 use Rattle.block.specs.declared.words.Block.{Block}
 use Rattle.block.specs.declared.words.Head.{Head}
 use Rattle.block.specs.declared.words.Head.the-variants.{Blank, ProgramLine, BlockLine, Other}
-use Rattle.rules.specs.Rules.{lacksBy, brokenBy}
+use Rattle.rules.specs.Rules.{brokenBy, lacksBy}
 use Rattle.reading.specs.Reading.{longestTape, History}
 use Rattle.finding.specs.Finding.{findProgram, blockOfProgram}
 use Rattle.places.specs.declared.Found.{Found}
@@ -43,11 +43,12 @@ use Rattle.steps.specs.Steps.{Task, blockOn}
 use Rattle.steps.specs.declared.step.Run.{Run}
 use Rattle.alarmed.specs.Order.{Row, row}
 
--- ---- 1 TO 4, of what the interpreter is given; the last: the length of the buffer
+-- ---- 1 TO 4, of what the interpreter is given; the last two: the length of the table of places, and that of the buffer
 pub record Input : Type 0 where
   pub tape : List ℕ
   pub table : List ℤ
   pub settings : Settings
+  pub size : ℕ
   pub bytes : ℕ
 
 -- 1 "table not 208 numbers, a number out of range, ..": `settingsWrong`
@@ -70,11 +71,13 @@ unopened i = not (anyOf opensTape (i .tape))
 abbrev pub inputOrder : List (Row Input)
 inputOrder = row badSettings settingsBad ∷ row tapeTooLong tooLong ∷ row bufferTooShort tooShort ∷ row noProgram unopened ∷ []
 
--- ---- A LINE as it is judged: what the interpreter is given, the line's text, its end not counted, and the numbers that were read before it
+-- ---- A LINE as it is judged: its text, the line end not counted, the numbers that were read before it, how many program lines and blocks these are, whether points are asked for, and how many entries the table of places has
 pub record Line : Type 0 where
-  pub given : Input
   pub text : List ℕ
   pub history : History
+  pub entries : ℕ
+  pub points : Bool
+  pub size : ℕ
 
 -- how it begins, and the words behind that
 abbrev pub headIn : Line → Head
@@ -91,9 +94,9 @@ overlong l = ltb longestLine (length (l .text))
 unfoldable pub unreadable : Line → Bool
 unreadable l = lineOf (l .text) .faulty
 
--- 21, where the settings ask for points: 02, "a setting turns missing points into an alarm for X Z U W. Zero without a point stays allowed." Of every word of the line, and of a line that begins with another word too
+-- 21, 02: "a setting turns missing points into an alarm for X Z U W"
 unfoldable pub pointMissing : Line → Bool
-pointMissing l = l .given .settings .points && lacksBy (headIn l) (wordsIn l .pointless)
+pointMissing l = l .points && lacksBy (headIn l) (wordsIn l .pointless)
 
 -- 6 "line starts with another word, program number repeated or above 6999, block number repeated in its program"
 unfoldable pub startsBadly : History → Head → Bool
@@ -109,9 +112,19 @@ startBad l = startsBadly (l .history) (headIn l)
 unfoldable pub rulesBroken : Line → Bool
 rulesBroken l = brokenBy (headIn l) (wordsIn l)
 
--- "then lines from the front, each 7, 5, 21, 6, 9"
+-- 22, 02: "a table shorter than these lines": a program line or a block finds it full
+unfoldable pub isEntry : Head → Bool
+isEntry Blank = false
+isEntry (Other lacks) = false
+isEntry (ProgramLine n) = true
+isEntry (BlockLine n) = true
+
+unfoldable pub tableFull : Line → Bool
+tableFull l = isEntry (headIn l) && leb (l .size) (l .entries)
+
+-- "then lines from the front, each 7, 5, 21, 6, 9, 22"
 abbrev pub lineOrder : List (Row Line)
-lineOrder = row lineTooLong overlong ∷ row badByteOrNumber unreadable ∷ row missingPoint pointMissing ∷ row badLineStart startBad ∷ row wordRules rulesBroken ∷ []
+lineOrder = row lineTooLong overlong ∷ row badByteOrNumber unreadable ∷ row missingPoint pointMissing ∷ row badLineStart startBad ∷ row wordRules rulesBroken ∷ row placesTooShort tableFull ∷ []
 
 -- ---- A BLOCK as it is begun: what the run is given, the place of the line of the program that the block stands in, how many calls deep that program runs (the main program: 0), the block's place on the tape, and the run
 -- before it

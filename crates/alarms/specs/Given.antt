@@ -5,7 +5,7 @@ use mathlib.Core.Bool.{Bool, true, cond}
 use mathlib.Core.List.{List, [], _∷_, _++_}
 use Prim.Native.Nat.{ℕ}
 use Rattle.whole.specs.Among.{among}
-use Rattle.alarms.specs.Numbers.{badSettings, tapeTooLong, bufferTooShort, noProgram, badByteOrNumber, badLineStart, lineTooLong, wordRules, programMissing, blockMissing, tooDeep, tooManyBegun, wrongEnd, noMotion, notRapid, badFeed, outsideLimits, badLengths, noRoom, missingPoint}
+use Rattle.alarms.specs.Numbers.{badSettings, tapeTooLong, bufferTooShort, noProgram, badByteOrNumber, badLineStart, lineTooLong, wordRules, programMissing, blockMissing, tooDeep, tooManyBegun, wrongEnd, noMotion, notRapid, badFeed, outsideLimits, badLengths, noRoom, missingPoint, placesTooShort}
 
 -- those that are given whatever the settings are
 abbrev pub always : List ℕ
@@ -29,6 +29,7 @@ always =
     ∷ outsideLimits
     ∷ badLengths
     ∷ noRoom
+    ∷ placesTooShort
     ∷ []
 
 -- all, where points are asked or not

@@ -80,3 +80,7 @@ noRoom = 20
 -- 02: "a setting turns missing points into an alarm for X Z U W"
 abbrev pub missingPoint : ℕ
 missingPoint = 21
+
+-- 02: "a table shorter than these lines is 22"
+abbrev pub placesTooShort : ℕ
+placesTooShort = 22

@@ -39,3 +39,5 @@ pub const BAD_LENGTHS: u8 = 19;
 pub const NO_ROOM: u8 = 20;
 
 pub const MISSING_POINT: u8 = 21;
+
+pub const PLACES_TOO_SHORT: u8 = 22;

@@ -7,7 +7,7 @@ ghost use Prim.Native.Nat.{_+_, _*_, _<_};
 ghost use lib.ListN.{length};
 ghost use Rattle.readback.specs.Lists.{judged, readOf, readJudged};
 ghost use Rattle.readback.specs.Numbers.{refusalOf, answerOf, numbersAfter};
-ghost use Rattle.board.specs.Door.{answerAt, bufferAt, Fits, Packed};
+ghost use Rattle.board.specs.Door.{answerAt, placesAt, bufferAt, Fits, Packed};
 
 // Alarm, place and count as one number.
 fn packed(alarm: u8, place: usize, count: usize) -> u64
@@ -33,10 +33,12 @@ pub extern "C" fn tm02_interpret(
     tape: &[u8],
     table: &[i32],
     settings: &[i32],
+    places: &mut [u64],
     buf: &mut [u8],
 ) -> u64
-    ensures result { λ r. ⌜ Packed (answerAt (now (tape .entry)) (now (table .entry)) (now (settings .entry)) (length (now (buf .entry)))) r ⌝ }
-    ensures records { λ _. ⌜ now (buf .exit) ≡ bufferAt (now (tape .entry)) (now (table .entry)) (now (settings .entry)) (now (buf .entry)) ⌝ }
+    ensures result { λ r. ⌜ Packed (answerAt (now (tape .entry)) (now (table .entry)) (now (settings .entry)) (length (now (places .entry))) (length (now (buf .entry)))) r ⌝ }
+    ensures filled { λ _. ⌜ now (places .exit) ≡ placesAt (now (tape .entry)) (now (table .entry)) (now (settings .entry)) (now (places .entry)) (length (now (buf .entry))) ⌝ }
+    ensures records { λ _. ⌜ now (buf .exit) ≡ bufferAt (now (tape .entry)) (now (table .entry)) (now (settings .entry)) (length (now (places .entry))) (now (buf .entry)) ⌝ }
 {
     if settings::row::unfit(settings) {
         return packed_answer(Answer::Alarm(alarms::BAD_SETTINGS, 0, 0));
@@ -45,6 +47,7 @@ pub extern "C" fn tm02_interpret(
         tape,
         table,
         settings::row::settings_of(settings),
+        places,
         buf,
     );
     packed_answer(answer)

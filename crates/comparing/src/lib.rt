@@ -10,12 +10,15 @@ ghost use Rattle.stored.specs.Texts.{FromOne};
 const TEXT: usize = listing::lines::LONGEST_HEAD
     + listing::lines::LONGEST_RECORD_LINE * moves::RECORD_LIMIT;
 
+// The longest table of places that is lent.
+const PLACES: usize = reading::read::MOST_PLACES;
+
 fn listing_text() -> [u8; TEXT] {
     [0u8; TEXT]
 }
 
 // The settings in the order of the door.
-fn settings_of(given: &[i32; ALL]) -> [i32; settings::row::COUNT] {
+pub fn settings_of(given: &[i32; ALL]) -> [i32; settings::row::COUNT] {
     [
         given[stored::given::MAIN],
         given[stored::given::LOWEST],
@@ -32,7 +35,7 @@ fn settings_of(given: &[i32; ALL]) -> [i32; settings::row::COUNT] {
 }
 
 // The answer that the door has packed.
-fn unpacked(packed: u64) -> Answer {
+pub fn unpacked(packed: u64) -> Answer {
     let count = (packed % 65_536) as usize;
     let place = (packed / 65_536 % 65_536) as usize;
     let alarm = (packed / 4_294_967_296 % 256) as u8;
@@ -52,25 +55,35 @@ fn judge_answer(answer: Answer, list: &[u8], want: &[u8]) -> Verdict
 }
 
 // Runs a tape through the door and judges what it answers and leaves.
-fn judge_run(tape: &[u8], table: &[i32], settings: &[i32], buf: &mut [u8], want: &[u8]) -> Verdict
+fn judge_run(
+    tape: &[u8],
+    table: &[i32],
+    settings: &[i32],
+    places: &mut [u64],
+    buf: &mut [u8],
+    want: &[u8],
+) -> Verdict
     ensures { λ r. ⌜ FromOne r ⌝ }
 {
-    let packed = board::tm02_interpret(tape, table, settings, buf);
+    let packed = board::tm02_interpret(tape, table, settings, places, buf);
     judge_answer(unpacked(packed), buf, want)
 }
 
-// Lends the tape the table and the buffer that its case asks for, and no number and no byte more.
+// Lends the tape the table, the table of places and the buffer that its case asks for, and no number and no byte more.
 pub fn judge(tape: &[u8], given: [i32; ALL], want: &[u8]) -> Verdict
     ensures { λ r. ⌜ FromOne r ⌝ }
 {
     let mut space = io::large_buffer();
+    let mut places = [0u64; PLACES];
     let numbers = stored::given::numbers_of(&given);
     let bytes = stored::given::bytes_of(&given);
+    let held = stored::given::held_of(&given);
     let settings = settings_of(&given);
     judge_run(
         tape,
         &given[..numbers],
         &settings,
+        &mut places[..held],
         &mut space[..bytes],
         want,
     )

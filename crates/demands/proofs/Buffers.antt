@@ -192,7 +192,7 @@ module _ (P : Task → State → Block → List Record → Type 0)
             (chain-fits t known range (x .steps) r (x .outcome .run) sound (omega arith) l) (every-step P kept t (x .steps) r (x .outcome .run) l) l refl refl;
       }
 
-  pub every-read : (tape : List ℕ) (table : List ℤ) (set : Settings) (b : List ℕ) → Shown (task tape table set (length b)) b (interpretation tape table set (length b))
-  every-read tape table set b =
-      every-result (λ t. Shown t b) tape table set (length b) (λ t alarm place _ _ _. none-shown t b alarm place)
+  pub every-read : (tape : List ℕ) (table : List ℤ) (set : Settings) (size : ℕ) (b : List ℕ) → Shown (task tape table set size (length b)) b (interpretation tape table set size (length b))
+  every-read tape table set size b =
+      every-result (λ t. Shown t b) tape table set size (length b) (λ t alarm place _ _ _. none-shown t b alarm place)
       (λ h _ k first end p on. run-shown b h (taskOf (take end tape) table (withPoints false set) first (length b)) (k .offsets) (k .range) (start-sound (set .x) (set .z) (k .starts .x) (k .starts .z)) (mainAt set p) on)

@@ -56,9 +56,9 @@ module _ (P : Task → State → Block → List Record → Type 0)
       let x = programRun t p mostCalls r in
       record { steps = every-step P kept t (x .steps) r (x .outcome .run) (program-leads t p mostCalls r on .linked) }
 
-  pub every-run : (tape : List ℕ) (table : List ℤ) (set : Settings) (bytes : ℕ) → Shown (task tape table set bytes) (interpretation tape table set bytes)
-  every-run tape table set bytes =
-      every-result Shown tape table set bytes (λ t alarm place _ _ _. none-shown t alarm place) (λ _ _ _ first end p on. run-shown (taskOf (take end tape) table (withPoints false set) first bytes) (mainAt set p) on)
+  pub every-run : (tape : List ℕ) (table : List ℤ) (set : Settings) (size bytes : ℕ) → Shown (task tape table set size bytes) (interpretation tape table set size bytes)
+  every-run tape table set size bytes =
+      every-result Shown tape table set size bytes (λ t alarm place _ _ _. none-shown t alarm place) (λ _ _ _ first end p on. run-shown (taskOf (take end tape) table (withPoints false set) first bytes) (mainAt set p) on)
 
 -- what holds of each step holds of it otherwise said
 pub each-from : {A B : Step → ℕ → Type 0} → ((st : Step) (k : ℕ) → A st k → B st k) → (k : ℕ) (sts : List Step) → EachFrom A k sts → EachFrom B k sts
@@ -80,17 +80,17 @@ threads : (t : Task) (s : State) (b : Block) (left : ℕ) → alarmIn (t .table)
 threads t s b left well opens = block-threaded (t .table) (t .settings) s b opens left well
 
 -- ---- of every input
-module _ (tape : List ℕ) (table : List ℤ) (set : Settings) where
-  pub demand-three : (bytes : ℕ) → DemandThree tape table set bytes
-  demand-three bytes = every-run Turns turns tape table set bytes .steps
+module _ (tape : List ℕ) (table : List ℤ) (set : Settings) (size : ℕ) where
+  pub demand-three : (bytes : ℕ) → DemandThree tape table set size bytes
+  demand-three bytes = every-run Turns turns tape table set size bytes .steps
 
-  pub thread-promise : (bytes : ℕ) → ThreadPromise tape table set bytes
-  thread-promise bytes = every-run Threads threads tape table set bytes .steps
+  pub thread-promise : (bytes : ℕ) → ThreadPromise tape table set size bytes
+  thread-promise bytes = every-run Threads threads tape table set size bytes .steps
 
-  pub demand-three-in-buffer : (b : List ℕ) → DemandThreeInBuffer tape table set b
+  pub demand-three-in-buffer : (b : List ℕ) → DemandThreeInBuffer tape table set size b
   demand-three-in-buffer b =
-      each-from (λ st k a opens. record { x = a .0 .x; z = a .0 .z; turned = a .1 opens }) 0 (interpretation tape table set (length b) .steps) (every-read Turns turns tape table set b .steps)
+      each-from (λ st k a opens. record { x = a .0 .x; z = a .0 .z; turned = a .1 opens }) 0 (interpretation tape table set size (length b) .steps) (every-read Turns turns tape table set size b .steps)
 
-  pub thread-promise-in-buffer : (b : List ℕ) → ThreadPromiseInBuffer tape table set b
+  pub thread-promise-in-buffer : (b : List ℕ) → ThreadPromiseInBuffer tape table set size b
   thread-promise-in-buffer b =
-      each-from (λ st k a opens. record { stands = a .0; threaded = a .1 opens }) 0 (interpretation tape table set (length b) .steps) (every-read Threads threads tape table set b .steps)
+      each-from (λ st k a opens. record { stands = a .0; threaded = a .1 opens }) 0 (interpretation tape table set size (length b) .steps) (every-read Threads threads tape table set size b .steps)

@@ -43,6 +43,7 @@ use Rattle.demands.proofs.Cycles.{counted}
 use Rattle.demands.proofs.Demands.{count-by}
 use Rattle.demands.proofs.Fits.{fitting-append}
 use Rattle.demands.proofs.Linked.{StopsOn, free-own, program-leads}
+use Rattle.demands.proofs.Placed.{table-after}
 use Rattle.demands.proofs.Results.{every-result}
 
 -- ---- along the chain
@@ -190,20 +191,23 @@ run-shown points size b header t short near room known range sound p on =
 cut-short : (end : ℕ) (tape : List ℕ) → length (take end tape) ≤ length tape
 cut-short end tape = omega (arith, length-take end tape)
 
-module _ (tape : List ℕ) (table : List ℤ) (set : Settings) (b : List ℕ) where
-  shown : Shown (set .points) (length tape) b (interpretation tape table set (length b))
+module _ (tape : List ℕ) (table : List ℤ) (set : Settings) (size : ℕ) (b : List ℕ) where
+  shown : Shown (set .points) (length tape) b (interpretation tape table set size (length b))
   shown =
-      every-result (λ _. Shown (set .points) (length tape) b) tape table set (length b) (λ _ alarm place some on near. none-shown (set .points) (length tape) b alarm place some on near)
+      every-result (λ _. Shown (set .points) (length tape) b) tape table set size (length b) (λ _ alarm place some on near. none-shown (set .points) (length tape) b alarm place some on near)
       (λ h near k first end p on.
       run-shown (set .points) (length tape) b h (taskOf (take end tape) table (withPoints false set) first (length b)) (cut-short end tape) near refl (k .offsets) (k .range)
       (start-sound (set .x) (set .z) (k .starts .x) (k .starts .z)) (mainAt set p) on)
 
-  pub demand-one : DemandOne tape table set b
-  demand-one = shown .one
+  pub all-owed : Owed (set .points) (length tape) (interpretation tape table set size (length b)) b
+  all-owed = shown .one
 
-  pub demand-two : DemandTwo tape table set b
+  pub demand-two : DemandTwo tape table set size b
   demand-two h = shown .two _ (shown .one .told .number .complete h)
 
   -- 02: "Show that 8 is never given"
-  pub never-eight : (place count : ℕ) → answerOf tape table set (length b) ≡ Alarm 8 place count → ⊥
-  never-eight place count e = not-eight (set .points) (subst (Named (set .points)) e (demand-one .told .number) .alarm (λ z. omega (arith, z)))
+  pub never-eight : (place count : ℕ) → answerOf tape table set size (length b) ≡ Alarm 8 place count → ⊥
+  never-eight place count e = not-eight (set .points) (subst (Named (set .points)) e (all-owed .told .number) .alarm (λ z. omega (arith, z)))
+
+pub demand-one : (tape : List ℕ) (table : List ℤ) (set : Settings) (places b : List ℕ) → DemandOne tape table set places b
+demand-one tape table set places b = (all-owed tape table set (length places) b, table-after tape table set places (length b))

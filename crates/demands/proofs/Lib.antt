@@ -10,6 +10,7 @@ pub mod Cycles
 pub mod Demands
 pub mod Fits
 pub mod Buffers
+pub mod Placed
 pub mod Holding
 pub mod Standing
 pub mod Points

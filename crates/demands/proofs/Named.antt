@@ -4,11 +4,11 @@ use mathlib.Core.Path.{_≡_, refl, sym, ap, _∙_}
 use mathlib.Core.Bool.{Bool, true, false, cond, _&&_, _||_}
 use mathlib.Core.List.{List, _∷_}
 use Prim.Native.Nat.{ℕ, _-_}
-use lib.Dec.{ltb, eqb}
+use lib.Dec.{leb, ltb, eqb}
 use lib.IntN.{ℤ}
 use lib.ListN.{length}
 use borrow.Author.Tests.{ne-eqb}
-use Rattle.alarms.specs.Numbers.{badLineStart, lineTooLong, badByteOrNumber, wordRules, noMotion, notRapid, badFeed, outsideLimits, badLengths, noRoom, missingPoint}
+use Rattle.alarms.specs.Numbers.{badLineStart, lineTooLong, badByteOrNumber, wordRules, noMotion, notRapid, badFeed, outsideLimits, badLengths, noRoom, missingPoint, placesTooShort}
 use Rattle.alarms.specs.Given.{given, IsAlarm}
 use Rattle.whole.specs.Among.{among}
 use Rattle.settings.specs.Wrong.{highestProgram}
@@ -19,6 +19,7 @@ use Rattle.block.specs.declared.words.Block.{Block}
 use Rattle.block.specs.declared.words.Head.{Head}
 use Rattle.block.specs.declared.words.Head.the-variants.{Blank, ProgramLine, BlockLine, Other}
 use Rattle.reading.specs.Reading.{History, headAlarm, lineAlarm}
+use Rattle.reading.specs.Filling.{Filled, roomAlarm, alarmWith}
 use Rattle.state.specs.declared.modal.State.{State}
 use Rattle.asking.specs.Judge.{feedWrong, roomWrong, alarmOf}
 use Rattle.asking.specs.declared.Asked.{Asked}
@@ -70,12 +71,25 @@ point-named true true n h = refl
 point-named true false n h = h
 point-named false pointless n h = h
 
-pub line-named : (points : Bool) (h : History) (s : List ℕ) → NoneOrGiven points (lineAlarm points h (judged s))
+own-line-named : (points : Bool) (h : History) (s : List ℕ) → NoneOrGiven points (lineAlarm points h (judged s))
 unfolding lineAlarm
-line-named points h s =
+own-line-named points h s =
     let j = judged s in
     let head = headAlarm h (j .head) (j .broken) in
     either points (eqb (j .alarm) 0) (cond (points && j .pointless) missingPoint head) (j .alarm) (point-named points (j .pointless) head (head-named points h (j .head) (j .broken))) (judged-named points s)
+
+room-named : (points : Bool) (size : ℕ) (row : List ℕ) (k : Head) → NoneOrGiven points (roomAlarm size row k)
+unfolding roomAlarm
+room-named points size row (ProgramLine n) = either points (leb size (length row)) placesTooShort 0 refl refl
+room-named points size row (BlockLine n) = either points (leb size (length row)) placesTooShort 0 refl refl
+room-named points size row Blank = refl
+room-named points size row (Other lacks) = refl
+
+pub line-named : (points : Bool) (size : ℕ) (h : History) (f : Filled) (s : List ℕ) → NoneOrGiven points (alarmWith points size h f (judged s))
+unfolding alarmWith
+line-named points size h f s =
+    let j = judged s in
+    either points (eqb (lineAlarm points h j) 0) (roomAlarm size (f .row) (j .head)) (lineAlarm points h j) (room-named points size (f .row) (j .head)) (own-line-named points h s)
 
 -- ---- of a block: whatever the settings are
 deed-named : (q : Asks) (a : Asked) → NoneOrGiven false (alarmOf q a)

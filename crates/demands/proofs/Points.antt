@@ -33,14 +33,15 @@ use Rattle.block.specs.declared.words.Slot.the-variants as slot
 use Rattle.block.specs.Words.{longestLine, numberIn, slotOf, noWords, putIn, putWord, isProgramAddress, faultyRest, gather, headBy, lineBy, lineOf}
 use Rattle.rules.specs.Rules.{brokenBy, lacksBy, refusedLine, judgedBy, judged}
 use Rattle.rules.specs.declared.judge.Judged.{Judged}
-use Rattle.reading.specs.Reading.{History, nothingRead, headAlarm, lineAlarm, noted, endsWith, afterLine, readLines, readOf}
+use Rattle.reading.specs.Reading.{History, nothingRead, headAlarm, lineAlarm, noted, endsWith}
+use Rattle.reading.specs.Filling.{Filled, nothingFilled, filed, roomAlarm, alarmWith, Readings, afterLineWith, readLinesWith, readWith, placesBehind}
 use Rattle.reading.specs.declared.read.Read.{Read}
 use Rattle.reading.specs.declared.read.Read.the-variants as read
 use Rattle.answers.specs.declared.Answer.the-variants.{Alarm}
-use Rattle.interpreter.specs.Answers.{Result, refused, readThen, longestTape, interpretation, answerOf, laidBy}
+use Rattle.interpreter.specs.Answers.{Result, refused, readThen, longestTape, interpretationBy, interpretation, answerOf, rowOf, laidBy}
 use Rattle.demands.specs.Demands.{Named}
 use Rattle.demands.specs.Points.{OffNo21, WordsPointed, LinesPointed, Pointed, PointsSame}
-use Rattle.demands.proofs.Holding.{demand-one}
+use Rattle.demands.proofs.Holding.{all-owed}
 
 -- ---- a line
 neither : (a b : Bool) → a ≡ false → b ≡ false → (a || b) ≡ false
@@ -105,19 +106,24 @@ line-same : (h : History) (j : Judged) → j .pointless ≡ false → lineAlarm 
 unfolding lineAlarm
 line-same h j e = ap (λ (t : Bool). cond (eqb (j .alarm) 0) (cond t missingPoint (headAlarm h (j .head) (j .broken))) (j .alarm)) e
 
-lines-same : (first end : ℕ) (h : History) (ts : List Text) → LinesPointed ts → readLines true first end h ts ≡ readLines false first end h ts
-unfolding readLines LinesPointed
-lines-same first end h [] a = refl
-lines-same first end h (t ∷ ts) a =
-    let j = judged (t .bytes) in
-    λ i.
-    afterLine first (line-same h j (judged-pointed (t .bytes) (a .0)) i) (endsWith (j .head) (j .ends)) t (lines-same first end (noted h (j .head)) ts (a .1) i)
+alarm-same : (size : ℕ) (h : History) (f : Filled) (j : Judged) → j .pointless ≡ false → alarmWith true size h f j ≡ alarmWith false size h f j
+unfolding alarmWith
+alarm-same size h f j e = ap (λ (n : ℕ). cond (eqb n 0) (roomAlarm size (f .row) (j .head)) n) (line-same h j e)
 
-read-same : (tape : List ℕ) → Pointed tape → readOf true tape ≡ readOf false tape
-unfolding readOf
-read-same tape a =
+lines-same : (size first end : ℕ) (h : History) (f : Filled) (ts : List Text) → LinesPointed ts → readLinesWith true size first end h f ts ≡ readLinesWith false size first end h f ts
+unfolding readLinesWith LinesPointed
+lines-same size first end h f [] a = refl
+lines-same size first end h f (t ∷ ts) a =
+    let j = judged (t .bytes) in
+    let g = filed f (j .head) (t .place) in
+    λ i.
+    afterLineWith first (alarm-same size h f j (judged-pointed (t .bytes) (a .0)) i) (endsWith (j .head) (j .ends)) t (f .row) (g .row) (lines-same size first end (noted h (j .head)) g ts (a .1) i)
+
+read-same : (size : ℕ) (tape : List ℕ) → Pointed tape → readWith true size tape ≡ readWith false size tape
+unfolding readWith
+read-same size tape a =
     let first = seekFrom opensTape tape 0 in
-    ap (λ (r : Read). cond (ltb first (length tape)) r (read.Alarm noProgram 0)) (lines-same first (length tape) nothingRead (lines tape first) a)
+    ap (λ (r : Readings). cond (ltb first (length tape)) r (record { read = read.Alarm noProgram 0; row = [] })) (lines-same size first (length tape) nothingRead nothingFilled (lines tape first) a)
 
 -- ---- of every input
 module _ (tape : List ℕ) (table : List ℤ) (set : Settings) where
@@ -127,16 +133,23 @@ module _ (tape : List ℕ) (table : List ℤ) (set : Settings) where
   run-same bytes (read.Whole first end) = refl
   run-same bytes (read.Alarm alarm place) = refl
 
-  whole-same : (bytes : ℕ) → Pointed tape → interpretation tape table (withPoints true set) bytes ≡ interpretation tape table (withPoints false set) bytes
-  unfolding interpretation settingsWrong
-  whole-same bytes a =
+  whole-same : (size bytes : ℕ) → Pointed tape → interpretation tape table (withPoints true set) size bytes ≡ interpretation tape table (withPoints false set) size bytes
+  unfolding interpretation interpretationBy settingsWrong
+  whole-same size bytes a =
       ap (λ (x : Result).
       cond (settingsWrong table set) (refused badSettings 0) (cond (ltb longestTape (length tape)) (refused tapeTooLong 0) (cond (ltb bytes headerSize) (refused bufferTooShort 0) x)))
-      (ap (readThen tape table (withPoints true set) bytes) (read-same tape a) ∙ run-same bytes (readOf false tape))
+      (ap (λ (x : Readings). readThen tape table (withPoints true set) bytes (x .read)) (read-same size tape a) ∙ run-same bytes (readWith false size tape .read))
 
-  pub points-same : (b : List ℕ) → PointsSame tape table set b
-  points-same b a = let e = whole-same (length b) a in (ap (λ (x : Result). x .answer) e, ap (λ (x : Result). laidBy x b) e)
+  row-same : (size bytes : ℕ) → Pointed tape → rowOf tape table (withPoints true set) size bytes ≡ rowOf tape table (withPoints false set) size bytes
+  unfolding rowOf settingsWrong
+  row-same size bytes a =
+      ap (λ (x : Readings). cond (settingsWrong table set) [] (cond (ltb longestTape (length tape)) [] (cond (ltb bytes headerSize) [] (x .row)))) (read-same size tape a)
 
-  pub off-no-21 : (b : List ℕ) → OffNo21 tape table set b
-  off-no-21 b off place count e =
-      not-missing (subst (λ (points : Bool). IsAlarm points missingPoint) off (subst (Named (set .points)) e (demand-one tape table set b .told .number) .alarm (λ z. omega (arith, z))))
+  pub points-same : (places b : List ℕ) → PointsSame tape table set places b
+  points-same places b a =
+      let e = whole-same (length places) (length b) a in
+      (ap (λ (x : Result). x .answer) e, ap (λ (r : List ℕ). placesBehind r places) (row-same (length places) (length b) a), ap (λ (x : Result). laidBy x b) e)
+
+  pub off-no-21 : (size : ℕ) (b : List ℕ) → OffNo21 tape table set size b
+  off-no-21 size b off place count e =
+      not-missing (subst (λ (points : Bool). IsAlarm points missingPoint) off (subst (Named (set .points)) e (all-owed tape table set size b .told .number) .alarm (λ z. omega (arith, z))))

@@ -225,10 +225,10 @@ AddsUp t s b rs = opensCutting b ≡ true → DepthsAddUp (inwardIn (t .table) s
 adds-up : (t : Task) (s : State) (b : Block) (left : ℕ) → alarmIn (t .table) (t .settings) s b left ≡ 0 → AddsUp t s b (doneRecords (t .table) (t .settings) s b)
 adds-up t s b left well opens = block-adds-up (t .table) (t .settings) s b opens left well
 
-module _ (tape : List ℕ) (table : List ℤ) (set : Settings) where
-  pub depth-law : (bytes : ℕ) → DepthLaw tape table set bytes
-  depth-law bytes = every-run AddsUp adds-up tape table set bytes .steps
+module _ (tape : List ℕ) (table : List ℤ) (set : Settings) (size : ℕ) where
+  pub depth-law : (bytes : ℕ) → DepthLaw tape table set size bytes
+  depth-law bytes = every-run AddsUp adds-up tape table set size bytes .steps
 
-  pub depth-law-in-buffer : (b : List ℕ) → DepthLawInBuffer tape table set b
+  pub depth-law-in-buffer : (b : List ℕ) → DepthLawInBuffer tape table set size b
   depth-law-in-buffer b =
-      each-from (λ st k a opens. record { stands = a .0; adds-up = a .1 opens }) 0 (interpretation tape table set (length b) .steps) (every-read AddsUp adds-up tape table set b .steps)
+      each-from (λ st k a opens. record { stands = a .0; adds-up = a .1 opens }) 0 (interpretation tape table set size (length b) .steps) (every-read AddsUp adds-up tape table set size b .steps)

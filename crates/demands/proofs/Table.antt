@@ -18,7 +18,9 @@ use Rattle.state.specs.Request.{timesOf, steered, flowBy, requestOf}
 use Rattle.state.specs.Target.{pairOf, correctionPair, offsetOf, targetX, targetZ}
 use Rattle.acts.specs.Stands.{standsFreely, standsWith, standsBy, isTaken}
 use Rattle.finding.specs.Finding.{hereOf, foundBy, seekLine, blockOfProgram}
-use Rattle.reading.specs.Reading.{headAlarm, lineAlarm, noted, endsWith, readLines, readOf}
+use Rattle.places.specs.Places.{keyIn, inserted}
+use Rattle.reading.specs.Reading.{headAlarm, lineAlarm, noted, endsWith}
+use Rattle.reading.specs.Filling.{filed, roomAlarm, alarmWith, readLinesWith, readWith}
 use Rattle.axes.specs.Goes.{rapidTo, feedTo, dwellAt}
 use Rattle.settings.specs.Limits.{outsideSpan, outside}
 use Rattle.axes.specs.Limits.{anyOutside}
@@ -29,10 +31,10 @@ use Rattle.asking.specs.Judge.{asksOf, alarmOf, doing}
 use Rattle.verdicts.specs.Verdicts.{sendingOf, deedIn, asksIn, askedIn, alarmIn}
 use Rattle.machine.specs.Blocks.{doneRecords, doneState}
 use Rattle.writing.specs.Writes.{oneIf, speedOf, toolOf, mOf, speedAndTool, spindleAndCoolant, moved, done, stops, stopping, writes, otherCount}
-use Rattle.ahead.specs.Ahead.{calledAt, jumpedTo, lookedUp}
+use Rattle.ahead.specs.Ahead.{calledAt, jumpedTo, lookedBy, lookedUp}
 use Rattle.steps.specs.Steps.{blockIn, blockOn, onwardBy, alarmBy, alarmAt, runAfter, doneAt, recordsAt, takenBy, takenFrom}
 use Rattle.answers.specs.Answers.{answerBy}
-use Rattle.interpreter.specs.Answers.{resultOf, mainBy, mainRun, readThen, interpretation}
+use Rattle.interpreter.specs.Answers.{resultOf, mainBy, mainRun, readThen, interpretationBy, interpretation}
 use Rattle.runners.specs.Runs.{recordsOf, pre, goBack, andThen, goOn, onward, blocks, enough, repeated, called}
 use Rattle.settings.specs.Wrong.{someOut, spanWrong, numbersWrong, tableWrong, settingsWrong}
 use Rattle.demands.specs.Table.{table, allHold}
@@ -41,11 +43,11 @@ pub pieces-come-out : allHold table ≡ true
 unfolding count pieces inTable roomOf seek opensTape isLineFeed lineAt gapOf linesUp lines digitsOf unsignedPath pathOf digitsIn numberOf capital endsNumber formOf numberWord
     indexedWord wordAt nextWord wordsUp wordsFrom gCode mCode has anyOf groupZeroIs callsOrJumps unknownNumber lateN afterProgram axisTwice lWordWrong standsFreely standsWith standsBy isTaken moreThanL
     callWrong pathWrong isForeign dWordMissing bitsWrong motionWrong dWordWrong broken brokenBy lacksBy judged slotOf noWords isEnd endsBy
-    putWord isProgramAddress faultyRest gather headBy headOf lineOf lacksPoint hereOf foundBy seekLine blockOfProgram headAlarm lineAlarm noted endsWith readLines readOf
+    putWord isProgramAddress faultyRest gather headBy headOf lineOf lacksPoint hereOf foundBy seekLine blockOfProgram headAlarm lineAlarm noted endsWith keyIn inserted filed roomAlarm alarmWith readLinesWith readWith
     rapidTo feedTo dwellAt outsideSpan outside anyOutside tooShort passCount passOn passes turning recordCount wrong stepCount steps cutCount cutting dwelling plunge plunges
     grooving plungeCount recordCountGrooving codeIn gIn motionBy blockMotion keep shiftBy cuttingBy revolutionBy correctionAfter feedAfter dueAfter settled timesOf steered flowBy mIn
     requestOf pairOf correctionPair offsetOf targetX targetZ hasPath isFacing turningOf grooveOf straightIf moveOf deedOf asksOf
     alarmOf sendingOf deedIn asksIn askedIn alarmIn doneRecords doneState oneIf speedOf toolOf mOf speedAndTool spindleAndCoolant doing moved done stops stopping
-    writes otherCount calledAt jumpedTo lookedUp blockIn blockOn onwardBy alarmBy alarmAt runAfter doneAt recordsAt takenBy takenFrom answerBy resultOf mainBy
-    mainRun readThen interpretation recordsOf pre goBack andThen goOn onward blocks enough repeated called someOut spanWrong numbersWrong tableWrong settingsWrong returnsBy
+    writes otherCount calledAt jumpedTo lookedBy lookedUp blockIn blockOn onwardBy alarmBy alarmAt runAfter doneAt recordsAt takenBy takenFrom answerBy resultOf mainBy
+    mainRun readThen interpretationBy interpretation recordsOf pre goBack andThen goOn onward blocks enough repeated called someOut spanWrong numbersWrong tableWrong settingsWrong returnsBy
 pieces-come-out = refl

@@ -13,18 +13,23 @@ use Rattle.moves.specs.Form.{headerSize, recordSize, recordLimit, recordStart, 
 use Rattle.moves.specs.Reading.{recordsIn, countIn, listIn}
 use Rattle.moves.specs.declared.record.Record.{Record}
 use Rattle.alarms.specs.Given.{IsAlarm}
-use Rattle.reading.specs.Reading.{readOf}
+use Rattle.reading.specs.Filling.{readWith}
 use Rattle.reading.specs.declared.read.Read.{Read}
 use Rattle.reading.specs.declared.read.Read.the-variants as read
+use Rattle.places.specs.Places.{Row}
+use Rattle.places.specs.Lines.{noProgram}
+use Rattle.whole.specs.Among.{among}
+use Rattle.tape.specs.Lines.{Text}
 use Rattle.turning.specs.Turned.{Turned}
 use Rattle.threading.specs.Threaded.{Threaded}
 use Rattle.moves.specs.Last.{lastOf}
+use Rattle.demands.specs.Placed.{entriesOf, acceptedIn}
 use Rattle.demands.specs.Opens.{opensTurning, wantedIn, opensThreading, threadIn}
 use Rattle.settings.specs.Points.{withPoints}
 use Rattle.settings.specs.declared.control.Settings.{Settings}
 use Rattle.steps.specs.Steps.{Task, taskOf, Step, blockOn}
 use Rattle.answers.specs.Answers.{numberOf, placeOf, countOf}
-use Rattle.interpreter.specs.Answers.{Result, longestTape, interpretation, bufferOf, laidBy}
+use Rattle.interpreter.specs.Answers.{Result, longestTape, interpretation, placesOf, bufferOf, laidBy}
 use Rattle.runners.specs.Runs.{recordsOf}
 use Rattle.answers.specs.declared.Answer.{Answer}
 use Rattle.answers.specs.declared.Answer.the-variants.{Complete}
@@ -49,12 +54,12 @@ abbrev pub readTask : List ℕ → List ℤ → Settings → ℕ → Read → Ta
 readTask tape table set bytes (read.Whole first end) = taskOf (take end tape) table (withPoints false set) first bytes
 readTask tape table set bytes (read.Alarm alarm place) = taskOf [] table (withPoints false set) 0 bytes
 
-abbrev pub task : List ℕ → List ℤ → Settings → ℕ → Task
-task tape table set bytes = readTask tape table set bytes (readOf (set .points) tape)
+abbrev pub task : List ℕ → List ℤ → Settings → ℕ → ℕ → Task
+task tape table set size bytes = readTask tape table set bytes (readWith (set .points) size tape .read)
 
 -- DEMAND 3, of every tape, table and settings, and every length of the buffer: every G84 that the run opened, with a division or without, in the main program, in subprograms and in repeats
-abbrev pub DemandThree : List ℕ → List ℤ → Settings → ℕ → Type 0
-DemandThree tape table set bytes = EveryCycle (task tape table set bytes) (interpretation tape table set bytes .steps)
+abbrev pub DemandThree : List ℕ → List ℤ → Settings → ℕ → ℕ → Type 0
+DemandThree tape table set size bytes = EveryCycle (task tape table set size bytes) (interpretation tape table set size bytes .steps)
 
 -- the same, with the records read off the bytes e of the buffer: the step's records stand there from number k on
 unfoldable pub EachFrom : (Step → ℕ → Type 0) → ℕ → List Step → Type 0
@@ -71,9 +76,9 @@ abbrev pub CutIn : Task → List ℕ → Step → ℕ → Type 0
 CutIn t e st k = opensTurning (blockOn (t .tape) (st .place)) ≡ true → TurnedIn t e st k
 
 -- DEMAND 3, of every tape, table, settings and buffer b, said of the bytes that are in the buffer after the run
-abbrev pub DemandThreeInBuffer : List ℕ → List ℤ → Settings → List ℕ → Type 0
-DemandThreeInBuffer tape table set b =
-    EachFrom (CutIn (task tape table set (length b)) (bufferOf tape table set b)) 0 (interpretation tape table set (length b) .steps)
+abbrev pub DemandThreeInBuffer : List ℕ → List ℤ → Settings → ℕ → List ℕ → Type 0
+DemandThreeInBuffer tape table set size b =
+    EachFrom (CutIn (task tape table set size (length b)) (bufferOf tape table set size b)) 0 (interpretation tape table set size (length b) .steps)
 
 -- ---- THE PROMISE OF THREADS (02, request 1), said as demand 3 is
 -- a step whose block is a G85 keeps the promise of the thread that its words ask for in the state before it
@@ -83,8 +88,8 @@ Threads t st =
     → Threaded (threadIn (t .table) (t .settings) (st .before .state) (blockOn (t .tape) (st .place))) (st .records)
 
 -- of every tape, table and settings, and every length of the buffer: every G85 that the run opened
-abbrev pub ThreadPromise : List ℕ → List ℤ → Settings → ℕ → Type 0
-ThreadPromise tape table set bytes = Each (Threads (task tape table set bytes)) (interpretation tape table set bytes .steps)
+abbrev pub ThreadPromise : List ℕ → List ℤ → Settings → ℕ → ℕ → Type 0
+ThreadPromise tape table set size bytes = Each (Threads (task tape table set size bytes)) (interpretation tape table set size bytes .steps)
 
 -- a step in the buffer begins where the records before it have left the axes
 pub record StandsIn (t : Task) (e : List ℕ) (st : Step) (k : ℕ) : Type 0 where
@@ -100,9 +105,9 @@ abbrev pub ThreadsIn : Task → List ℕ → Step → ℕ → Type 0
 ThreadsIn t e st k = opensThreading (blockOn (t .tape) (st .place)) ≡ true → ThreadedIn t e st k
 
 -- of every tape, table, settings and buffer b, said of the bytes that are in the buffer after the run
-abbrev pub ThreadPromiseInBuffer : List ℕ → List ℤ → Settings → List ℕ → Type 0
-ThreadPromiseInBuffer tape table set b =
-    EachFrom (ThreadsIn (task tape table set (length b)) (bufferOf tape table set b)) 0 (interpretation tape table set (length b) .steps)
+abbrev pub ThreadPromiseInBuffer : List ℕ → List ℤ → Settings → ℕ → List ℕ → Type 0
+ThreadPromiseInBuffer tape table set size b =
+    EachFrom (ThreadsIn (task tape table set size (length b)) (bufferOf tape table set size b)) 0 (interpretation tape table set size (length b) .steps)
 
 -- ---- demands 1 and 2
 -- the header's place: that of the list where it is complete, and as it came on an alarm
@@ -137,11 +142,23 @@ pub record Owed (points : Bool) (size : ℕ) (x : Result) (b : List ℕ) : Type 
   pub holds : HoldsAfter (x .answer) b (laidBy x b) (recordsOf (x .steps))
   pub told : Told points size (x .answer)
 
--- DEMAND 1, of every tape, table, settings and buffer: "Every tape, table and lent buffer gets a move list or a named alarm, and the work ends. No caller has to check first. An alarm gives its
+-- what a table of places that was `before` is after it, as `after`, where these lines were read and accepted: a row of entries that ascend, one for each program line and block of them and
+-- no other, and behind the row every entry as it came
+pub record TableAfter (accepted : List Text) (before after : List ℕ) : Type 0 where
+  pub row : List ℕ
+  pub ascends : Row row
+  pub entries : (e : ℕ) → among e row ≡ among e (entriesOf noProgram accepted)
+  pub counted : length row ≡ length (entriesOf noProgram accepted)
+  pub is : after ≡ row ++ drop (length row) before
+  pub fits : length row ≤ length before
+
+-- DEMAND 1, of every tape, table, settings, table of places and buffer: "Every tape, table and lent buffer gets a move list or a named alarm, and the work ends. No caller has to check first. An alarm gives its
 -- number, the place on the tape and the count of records written; the buffer then holds the records of the blocks finished before it, and all its other bytes are as they came." (A refused
--- block is no step. That the work ends is in the contract of `interpret`, as in every contract: a function that is proved comes back.)
-abbrev pub DemandOne : List ℕ → List ℤ → Settings → List ℕ → Type 0
-DemandOne tape table set b = Owed (set .points) (length tape) (interpretation tape table set (length b)) b
+-- block is no step. 02, of the lent table: "After any answer it holds those lines read and accepted, and its other entries are as they came." That the work ends is in the contract of `interpret`, as in every contract: a function that is proved comes back.)
+abbrev pub DemandOne : List ℕ → List ℤ → Settings → List ℕ → List ℕ → Type 0
+DemandOne tape table set places b =
+    Owed (set .points) (length tape) (interpretation tape table set (length places) (length b)) b
+    × TableAfter (acceptedIn tape table set (length places) (length b)) places (placesOf tape table set places (length b))
 
 -- a complete list of so many records: it is read off the bytes, its header has its count, and no other list has these bytes
 pub record IsList (count : ℕ) (e : List ℕ) (rs : List Record) : Type 0 where
@@ -156,6 +173,6 @@ pub record IsList (count : ℕ) (e : List ℕ) (rs : List Record) : Type 0 where
 abbrev pub OwedList : Result → List ℕ → Type 0
 OwedList x b = numberOf (x .answer) ≡ 0 → IsList (countOf (x .answer)) (laidBy x b) (recordsOf (x .steps))
 
--- DEMAND 2, of every tape, table, settings and buffer. (Where the answer is an alarm, and that it is a list where nothing refuses: `AlarmsStand` of `alarmed`.)
-abbrev pub DemandTwo : List ℕ → List ℤ → Settings → List ℕ → Type 0
-DemandTwo tape table set b = OwedList (interpretation tape table set (length b)) b
+-- DEMAND 2, of every tape, table, settings, length of the table of places and buffer. (Where the answer is an alarm, and that it is a list where nothing refuses: `AlarmsStand` of `alarmed`.)
+abbrev pub DemandTwo : List ℕ → List ℤ → Settings → ℕ → List ℕ → Type 0
+DemandTwo tape table set size b = OwedList (interpretation tape table set size (length b)) b

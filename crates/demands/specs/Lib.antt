@@ -1,6 +1,7 @@
 -- The statements of this crate.
 pub mod Table
 pub mod Steps
+pub mod Placed
 pub mod Opens
 pub mod Demands
 pub mod Points

@@ -12,11 +12,11 @@ use Rattle.settings.specs.declared.control.Settings.{Settings}
 use Rattle.tape.specs.Lines.{seekFrom, opensTape, Text, lines}
 use Rattle.addresses.specs.Words.{Words, word, ended, faulty, lacksPoint, wordsFrom}
 use Rattle.answers.specs.declared.Answer.the-variants.{Alarm}
-use Rattle.interpreter.specs.Answers.{answerOf, bufferOf}
+use Rattle.interpreter.specs.Answers.{answerOf, placesOf, bufferOf}
 
 -- with the setting off, nothing gives 21
-abbrev pub OffNo21 : List ℕ → List ℤ → Settings → List ℕ → Type 0
-OffNo21 tape table set b = set .points ≡ false → (place count : ℕ) → answerOf tape table set (length b) ≡ Alarm missingPoint place count → ⊥
+abbrev pub OffNo21 : List ℕ → List ℤ → Settings → ℕ → List ℕ → Type 0
+OffNo21 tape table set size b = set .points ≡ false → (place count : ℕ) → answerOf tape table set size (length b) ≡ Alarm missingPoint place count → ⊥
 
 -- no X Z U W number of a row of words lacks its point, zero aside
 abbrev pub WordsPointed : Words → Type 0
@@ -33,9 +33,12 @@ LinesPointed (t ∷ ts) = WordsPointed (wordsFrom (t .bytes) 0) × LinesPointed 
 abbrev pub Pointed : List ℕ → Type 0
 Pointed tape = LinesPointed (lines tape (seekFrom opensTape tape 0))
 
--- a tape in which none lacks its point gives the same answer and the same buffer with the setting on and off
-abbrev pub PointsSame : List ℕ → List ℤ → Settings → List ℕ → Type 0
-PointsSame tape table set b =
+-- a tape in which none lacks its point gives the same answer, the same table of places and the same buffer with the setting on and off
+abbrev pub PointsSame : List ℕ → List ℤ → Settings → List ℕ → List ℕ → Type 0
+PointsSame tape table set places b =
     Pointed tape → let on = withPoints true set in
     let off = withPoints false set in
-    (answerOf tape table on (length b) ≡ answerOf tape table off (length b)) × (bufferOf tape table on b ≡ bufferOf tape table off b)
+    let size = length places in
+    (answerOf tape table on size (length b) ≡ answerOf tape table off size (length b))
+    × (placesOf tape table on places (length b) ≡ placesOf tape table off places (length b))
+    × (bufferOf tape table on size b ≡ bufferOf tape table off size b)

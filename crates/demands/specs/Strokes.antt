@@ -52,9 +52,9 @@ Deepens t st =
     opensCutting (blockOn (t .tape) (st .place)) ≡ true
     → DepthsAddUp (inwardIn (t .table) (st .before .state) (blockOn (t .tape) (st .place))) (st .records)
 
--- THE LAW, of every tape, table and settings, and every length of the buffer: every such cycle that the run opened, in the main program, in subprograms and in repeats
-abbrev pub DepthLaw : List ℕ → List ℤ → Settings → ℕ → Type 0
-DepthLaw tape table set bytes = Each (Deepens (task tape table set bytes)) (interpretation tape table set bytes .steps)
+-- THE LAW, of every tape, table and settings, and every length of the table of places and of the buffer: every such cycle that the run opened, in the main program, in subprograms and in repeats
+abbrev pub DepthLaw : List ℕ → List ℤ → Settings → ℕ → ℕ → Type 0
+DepthLaw tape table set size bytes = Each (Deepens (task tape table set size bytes)) (interpretation tape table set size bytes .steps)
 
 -- such a cycle in the buffer: it starts where the records before it have left the axes, and the depths of its records add up
 pub record AddsUpIn (t : Task) (e : List ℕ) (st : Step) (k : ℕ) : Type 0 where
@@ -64,7 +64,7 @@ pub record AddsUpIn (t : Task) (e : List ℕ) (st : Step) (k : ℕ) : Type 0 whe
 abbrev pub DeepensIn : Task → List ℕ → Step → ℕ → Type 0
 DeepensIn t e st k = opensCutting (blockOn (t .tape) (st .place)) ≡ true → AddsUpIn t e st k
 
--- of every tape, table, settings and buffer b, said of the bytes that are in the buffer after the run
-abbrev pub DepthLawInBuffer : List ℕ → List ℤ → Settings → List ℕ → Type 0
-DepthLawInBuffer tape table set b =
-    EachFrom (DeepensIn (task tape table set (length b)) (bufferOf tape table set b)) 0 (interpretation tape table set (length b) .steps)
+-- of every tape, table, settings, length of the table of places and buffer b, said of the bytes that are in the buffer after the run
+abbrev pub DepthLawInBuffer : List ℕ → List ℤ → Settings → ℕ → List ℕ → Type 0
+DepthLawInBuffer tape table set size b =
+    EachFrom (DeepensIn (task tape table set size (length b)) (bufferOf tape table set size b)) 0 (interpretation tape table set size (length b) .steps)

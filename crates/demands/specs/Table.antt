@@ -14,14 +14,15 @@ use Rattle.letters.specs.Text.{bytes}
 use Rattle.addresses.specs.Words.{nextWord}
 use Rattle.addresses.specs.declared.NextWord.{NextWord}
 use Rattle.addresses.specs.declared.NextWord.the-variants as next
+use Rattle.reading.specs.Filling.{mostPlaces}
 use Rattle.settings.specs.Listmoves.{listmoves, noOffsets}
 use Rattle.answers.specs.Answers.{numberOf, placeOf, countOf}
 use Rattle.interpreter.specs.Answers.{Result, interpretation}
 use Rattle.runners.specs.Runs.{recordsOf}
 
--- what comes of a tape, in a buffer of 64,008 bytes
+-- what comes of a tape, with a table of places of 21,845 entries and a buffer of 64,008 bytes
 abbrev pub comesOf : String → Result
-comesOf text = interpretation (bytes text) noOffsets listmoves 64_008
+comesOf text = interpretation (bytes text) noOffsets listmoves mostPlaces 64_008
 
 -- ---- one question each
 pub data Case : Type 0 where

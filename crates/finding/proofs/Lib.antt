@@ -1,2 +1,3 @@
 -- The laws of a search along the lines.
 pub mod Searching
+pub mod Walking

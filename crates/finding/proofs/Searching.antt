@@ -16,11 +16,9 @@ use Rattle.block.specs.declared.words.Head.the-variants.{Blank, ProgramLine, Bl
 use Rattle.block.specs.declared.words.Head.{Head}
 use Rattle.finding.specs.declared.Here.{Here}
 use Rattle.finding.specs.declared.Here.the-variants.{Is, Ends, On}
-use Rattle.finding.specs.declared.Sought.the-variants.{AnyBlock}
 use Rattle.finding.specs.declared.NextBlock.the-variants as next
-use Rattle.finding.specs.declared.Sought.{Sought}
 use Rattle.places.specs.declared.Found.the-variants.{At, Nowhere}
-use Rattle.finding.specs.Finding.{hereOf, foundBy, seekLine, firstBlock, behindStart, nextBlock, BlockIn}
+use Rattle.finding.specs.Finding.{Sought, AnyBlock, hereOf, foundBy, seekLine, firstBlock, behindStart, nextBlock, BlockIn}
 
 -- only one of the three
 abbrev OnlyIs : Here → Type 0

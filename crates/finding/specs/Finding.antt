@@ -17,10 +17,14 @@ use Rattle.finding.specs.declared.NextBlock.{NextBlock}
 use Rattle.finding.specs.declared.NextBlock.the-variants as next
 use Rattle.finding.specs.declared.Here.{Here}
 use Rattle.finding.specs.declared.Here.the-variants.{Is, Ends, On}
-use Rattle.finding.specs.declared.Sought.{Sought}
-use Rattle.finding.specs.declared.Sought.the-variants.{Program, Block, AnyBlock}
 use Rattle.places.specs.declared.Found.{Found}
 use Rattle.places.specs.declared.Found.the-variants.{At, Nowhere}
+
+-- what is sought: the line of a program, the block of a number, or the next block
+pub data Sought : Type 0 where
+  Program : ℕ → Sought
+  Block : ℕ → Sought
+  AnyBlock : Sought
 
 -- what a line is to a search, by how it begins: the one that is sought, one that ends the search, or one to be passed. A search for a block ends with its program. (A line that was read begins
 -- with no other word.)

@@ -6,18 +6,23 @@ use mathlib.Core.List.{List}
 use Prim.Native.Nat.{ℕ, _≤_, _<_}
 use native.Mathlib.Omega.{arith}
 use lib.IntN.{ℤ}
-use lib.ListN.{length, take}
+use lib.ListN.{length, take, drop, length-append}
+use lib.Seq.{take-at}
 use borrow.Author.Tests.{lt-ltb, le-ltb}
 use Rattle.whole.proofs.Laying.{laid-nil}
 use Rattle.alarms.specs.Numbers.{badSettings, tapeTooLong, bufferTooShort, programMissing}
 use Rattle.moves.specs.Form.{headerSize, recordStart, recordLimit, rowBytes}
 use Rattle.tape.specs.Lines.{lines}
+use Rattle.places.specs.Places.{programIn}
 use Rattle.finding.specs.Finding.{findProgram}
-use Rattle.reading.specs.Reading.{readOf}
+use Rattle.finding.specs.Finds.{Finds}
+use Rattle.reading.specs.Filling.{Readings, told, readWith, placesBehind}
+use Rattle.reading.specs.declared.read.TapeRead.{TapeRead}
+use Rattle.reading.specs.declared.read.Read.the-variants as read
+use Rattle.reading.proofs.Tabled.{finds, ends-on}
 use Rattle.places.specs.declared.Found.{Found}
 use Rattle.places.specs.declared.Found.the-variants.{At, Nowhere}
 use Rattle.reading.specs.declared.read.Read.{Read}
-use Rattle.reading.specs.declared.read.Read.the-variants.{Whole}
 use Rattle.state.proofs.Ranges.{start-sound}
 use Rattle.settings.specs.declared.control.Settings.{Settings}
 use Rattle.moves.proofs.Room.{room-few}
@@ -25,7 +30,6 @@ use Rattle.ahead.specs.Ahead.{mostCalls}
 use Rattle.steps.specs.Steps.{Task, taskOf}
 use Rattle.steps.specs.Meets.{Ready, Fit}
 use Rattle.steps.specs.declared.step.Run.{Run}
-use Rattle.ahead.proofs.Places.{FoundIn, program-on}
 use Rattle.answers.specs.declared.Answer.{Answer}
 use Rattle.answers.specs.declared.Answer.the-variants.{Alarm}
 use Rattle.runners.specs.declared.run.Ending.{Ending}
@@ -35,7 +39,8 @@ use Rattle.runners.specs.Meets.{Begins, RanMeets}
 use Rattle.settings.specs.Points.{withPoints}
 use Rattle.settings.specs.Wrong.{settingsWrong}
 use Rattle.settings.specs.Known.{Right}
-use Rattle.interpreter.specs.Answers.{Result, refused, resultOf, mainAt, mainBy, mainRun, readThen, longestTape, interpretation, laidBy}
+use Rattle.interpreter.specs.Answers.{Result, refused, resultOf, mainAt, mainBy, mainRun, readThen, longestTape, interpretationBy, interpretation, rowOf, placesOf, laidBy}
+use Rattle.interpreter.specs.Known.{Lent, ReadIn}
 use Rattle.answers.specs.Answers.{answerBy, startOf, headed}
 use Rattle.runners.proofs.Going.{wrote-length}
 
@@ -56,6 +61,10 @@ module _ (tape : List ℕ) (table : List ℤ) (set : Settings) (first : ℕ) (b 
   abbrev t : Task
   t = taskOf tape table set first (length b)
 
+  -- what was looked up in the table of places is what the walk finds
+  pub main-found : {places : List ℕ} {count : ℕ} → Lent places count tape first → {f : Found} → f ≡ programIn (set .main) (take count places) → f ≡ findProgram (set .main) (lines tape first)
+  main-found lent e = e ∙ lent .finds .programs (set .main)
+
   main-is : {f : Found} → f ≡ findProgram (set .main) (lines tape first) → {g : Found} → f ≡ g → mainRun t ≡ mainBy t g
   unfolding mainRun
   main-is e h = ap (mainBy t) (sym e ∙ h)
@@ -64,18 +73,16 @@ module _ (tape : List ℕ) (table : List ℤ) (set : Settings) (first : ℕ) (b 
   unfolding mainBy
   main-missing e h = gives-by b (main-is e h) (none-begun programMissing 0 b)
 
-  module _ (on : first ≤ length tape) (right : Right table set) (header : headerSize ≤ length b) where
-    ready : Ready t (length b)
-    ready = record { table = right .offsets; range = right .range; first = on; header = header }
+  module _ {places : List ℕ} {count : ℕ} (lent : Lent places count tape first) (right : Right table set) (header : headerSize ≤ length b) where
+    ready : Ready t (length b) places count
+    ready = record { table = right .offsets; range = right .range; header = header; filled = lent .filled; finds = lent .finds }
 
     starts : {r : Run} → r ≡ startOf set → Fit t r
     starts e = subst (Fit t) (sym e) (record { sound = start-sound (set .x) (set .z) (right .starts .x) (right .starts .z); count = omega arith })
 
     pub main-begins : {f : Found} → f ≡ findProgram (set .main) (lines tape first) → (p : ℕ) → f ≡ At p → {r : Run} → r ≡ startOf set
-        → Begins t (length b) (mainAt set p) r
-    main-begins e p h k =
-        let l : p < length tape = subst (FoundIn (length tape)) (sym e ∙ h) (program-on (set .main) tape first) in
-        record { ready = ready; fit = starts k; line = omega (arith, l); few = omega (arith, ap (λ (x : Run). x .«blocks_left») k) }
+        → Begins t (length b) places count (mainAt set p) r
+    main-begins e p h k = record { ready = ready; fit = starts k; there = sym e ∙ h; few = omega (arith, ap (λ (x : Run). x .«blocks_left») k) }
 
     module _ (p : ℕ) {r : Run} (k : r ≡ startOf set) {o : Outcome} {e : List ℕ} (q : RanMeets t (programRun t (mainAt set p) mostCalls r) b r o e) where
       -- the header and the count have their room
@@ -96,7 +103,14 @@ module _ (tape : List ℕ) (table : List ℤ) (set : Settings) (first : ℕ) (b 
           gives-by b (main-is z h) (x ∙ same, y ∙ (λ i. headed (same i) (ran .took .buffer i)))
 
 -- ---- the tape as it was read
-module _ (tape : List ℕ) (table : List ℤ) (set : Settings) (b : List ℕ) where
+module _ (tape : List ℕ) (table : List ℤ) (set : Settings) (places b : List ℕ) where
+  -- what comes of it, and the table of places behind it
+  abbrev whole : Result
+  whole = interpretation tape table set (length places) (length b)
+
+  abbrev after : List ℕ
+  after = placesOf tape table set places (length b)
+
   read-is : {r s : Read} → r ≡ s → readThen tape table set (length b) r ≡ readThen tape table set (length b) s
   read-is e = ap (readThen tape table set (length b)) e
 
@@ -105,38 +119,75 @@ module _ (tape : List ℕ) (table : List ℤ) (set : Settings) (b : List ℕ) wh
 
   -- the run, with the points off
   pub run-gives : (first end : ℕ) {x : Settings} → x ≡ withPoints false set → {a : Answer} {e : List ℕ} → Gives (mainRun (taskOf (take end tape) table x first (length b))) b a e
-      → Gives (readThen tape table set (length b) (Whole first end)) b a e
+      → Gives (readThen tape table set (length b) (read.Whole first end)) b a e
   unfolding readThen
   run-gives first end h {a} {e} g = subst (λ (x : Settings). Gives (mainRun (taskOf (take end tape) table x first (length b))) b a e) h g
 
   -- ---- alarms 1, 2 and 3
-  is-wrong : settingsWrong table set ≡ true → interpretation tape table set (length b) ≡ refused badSettings 0
-  unfolding interpretation
+  is-wrong : settingsWrong table set ≡ true → whole ≡ refused badSettings 0
+  unfolding interpretation interpretationBy
   is-wrong e = rw e refl
 
-  pub wrong-settings : settingsWrong table set ≡ true → Gives (interpretation tape table set (length b)) b (Alarm badSettings 0 0) b
+  pub wrong-settings : settingsWrong table set ≡ true → Gives (whole) b (Alarm badSettings 0 0) b
   wrong-settings h = gives-by b (is-wrong h) (none-begun badSettings 0 b)
 
+  pub wrong-kept : settingsWrong table set ≡ true → places ≡ after
+  unfolding rowOf
+  wrong-kept h = rw h refl
+
   module _ (h1 : settingsWrong table set ≡ false) where
-    is-long : longestTape < length tape → interpretation tape table set (length b) ≡ refused tapeTooLong 0
-    unfolding interpretation
+    is-long : longestTape < length tape → whole ≡ refused tapeTooLong 0
+    unfolding interpretation interpretationBy
     is-long h = rw (h1, lt-ltb longestTape (length tape) h) refl
 
-    pub long-tape : longestTape < length tape → Gives (interpretation tape table set (length b)) b (Alarm tapeTooLong 0 0) b
+    pub long-tape : longestTape < length tape → Gives (whole) b (Alarm tapeTooLong 0 0) b
     long-tape h = gives-by b (is-long h) (none-begun tapeTooLong 0 b)
 
+    pub long-kept : longestTape < length tape → places ≡ after
+    unfolding rowOf
+    long-kept h = rw (h1, lt-ltb longestTape (length tape) h) refl
+
     module _ (h2 : length tape ≤ longestTape) where
-      is-short : length b < headerSize → interpretation tape table set (length b) ≡ refused bufferTooShort 0
-      unfolding interpretation
+      is-short : length b < headerSize → whole ≡ refused bufferTooShort 0
+      unfolding interpretation interpretationBy
       is-short h = rw (h1, le-ltb longestTape (length tape) h2, lt-ltb (length b) headerSize h) refl
 
-      pub short-buffer : length b < headerSize → Gives (interpretation tape table set (length b)) b (Alarm bufferTooShort 0 0) b
+      pub short-buffer : length b < headerSize → Gives (whole) b (Alarm bufferTooShort 0 0) b
       short-buffer h = gives-by b (is-short h) (none-begun bufferTooShort 0 b)
 
-      is-read : headerSize ≤ length b → interpretation tape table set (length b) ≡ readThen tape table set (length b) (readOf (set .points) tape)
-      unfolding interpretation
+      pub short-kept : length b < headerSize → places ≡ after
+      unfolding rowOf
+      short-kept h = rw (h1, le-ltb longestTape (length tape) h2, lt-ltb (length b) headerSize h) refl
+
+      is-read : headerSize ≤ length b → whole ≡ readThen tape table set (length b) (readWith (set .points) (length places) tape .read)
+      unfolding interpretation interpretationBy
       is-read h = rw (h1, le-ltb longestTape (length tape) h2, le-ltb (length b) headerSize h) refl
 
-      pub goes-on : headerSize ≤ length b → {r : Read} → r ≡ readOf (set .points) tape → {a : Answer} {e : List ℕ} → Gives (readThen tape table set (length b) r) b a e
-          → Gives (interpretation tape table set (length b)) b a e
+      pub goes-on : headerSize ≤ length b → {r : Read} → r ≡ readWith (set .points) (length places) tape .read → {a : Answer} {e : List ℕ} → Gives (readThen tape table set (length b) r) b a e
+          → Gives (whole) b a e
       goes-on h k g = gives-by b (is-read h ∙ sym (read-is k)) g
+
+      pub read-filled : headerSize ≤ length b → {x : List ℕ} → x ≡ placesBehind (readWith (set .points) (length places) tape .row) places → x ≡ after
+      unfolding rowOf
+      read-filled h e = e ∙ rw (h1, le-ltb longestTape (length tape) h2, le-ltb (length b) headerSize h) refl
+
+      -- what was read, with the table as it was left
+      pub read-known : {r : TapeRead} {x : List ℕ} → r ≡ told (readWith (set .points) (length places) tape) → x ≡ placesBehind (readWith (set .points) (length places) tape .row) places
+          → ReadIn tape x (r .count) (r .read)
+      read-known {r} {x} e f = subst (λ (y : TapeRead). ReadIn tape x (y .count) (y .read)) (sym e) (subst (λ (y : List ℕ). ReadIn tape y (length row) (readings .read)) (sym f) (by (readings .read) refl))
+        where
+          readings : Readings
+          readings = readWith (set .points) (length places) tape
+
+          row : List ℕ
+          row = readings .row
+
+          by : (z : Read) → readings .read ≡ z → ReadIn tape (placesBehind row places) (length row) z
+          by (read.Alarm alarm place) q = tt
+          by (read.Whole first end) q = (
+            ends-on (set .points) (length places) tape first end q,
+            record {
+              filled = omega (arith, length-append row (drop (length row) places));
+              finds = subst (λ (y : List ℕ). Finds y (take end tape) first) (sym (take-at row (drop (length row) places) (length row) refl)) (finds (set .points) (length places) tape first end q h2);
+            },
+          )

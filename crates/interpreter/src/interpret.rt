@@ -1,4 +1,4 @@
-// The interpreter: a tape, a table, settings and a lent buffer in, a list of moves or a named alarm out. No caller has to check anything first.
+// The interpreter: a tape, a table, settings, a lent table of places and a lent buffer in, a list of moves or a named alarm out. No caller has to check anything first.
 // (01: "1 to 4 in that order; then lines from the front ..; then 10 for the main; then blocks as run".)
 use ahead::ProgramAt;
 use answers::Answer;
@@ -10,16 +10,25 @@ ghost use Prim.Native.Nat.{_≤_};
 ghost use lib.ListN.{length};
 ghost use Rattle.moves.specs.Form.{headerSize};
 ghost use Rattle.steps.specs.Steps.{taskOf};
-ghost use Rattle.interpreter.specs.Answers.{mainRun, laidBy, ReadIn, readThen, answerOf, bufferOf};
+ghost use Rattle.interpreter.specs.Answers.{mainRun, laidBy, readThen, answerOf, placesOf, bufferOf};
+ghost use Rattle.interpreter.specs.Known.{Lent, ReadIn};
 ghost use Rattle.settings.specs.Known.{Right};
 
-// Runs the main program of a tape that was read, and writes the header where the list is complete.
-fn run_main(tape: &[u8], table: &[i32], set: Settings, first: usize, buf: &mut [u8]) -> Answer
-    requires { ⌜ (first ≤ length (now tape)) × Right (now table) set × (headerSize ≤ length (now buf)) ⌝ }
+// Runs the main program of a tape that was read, and writes the header where the list is complete. The first `count` entries of `places` are filled.
+fn run_main(
+    tape: &[u8],
+    table: &[i32],
+    set: Settings,
+    places: &[u64],
+    count: usize,
+    first: usize,
+    buf: &mut [u8],
+) -> Answer
+    requires { ⌜ Lent (now places) count (now tape) first × Right (now table) set × (headerSize ≤ length (now buf)) ⌝ }
     ensures result { λ r. ⌜ r ≡ mainRun (taskOf (now (tape .entry)) (now (table .entry)) set first (length (now (buf .entry)))) .answer ⌝ }
     ensures records { λ _. ⌜ now (buf .exit) ≡ laidBy (mainRun (taskOf (now (tape .entry)) (now (table .entry)) set first (length (now (buf .entry))))) (now (buf .entry)) ⌝ }
 {
-    let found = finding::find_program(tape, first, set.main);
+    let found = places::find_program(places, count, set.main);
     let Found::At(line) = found else {
         return Answer::Alarm(alarms::PROGRAM_MISSING, 0, 0);
     };
@@ -27,6 +36,8 @@ fn run_main(tape: &[u8], table: &[i32], set: Settings, first: usize, buf: &mut [
         tape,
         table,
         set,
+        places,
+        count,
         first,
         buf,
         ProgramAt {
@@ -42,8 +53,16 @@ fn run_main(tape: &[u8], table: &[i32], set: Settings, first: usize, buf: &mut [
 }
 
 // Runs a tape as it was read, up to where reading ended. A run asks for no points: that is done where the tape is read.
-fn run_read(tape: &[u8], table: &[i32], set: Settings, read: Read, buf: &mut [u8]) -> Answer
-    requires { ⌜ ReadIn (length (now tape)) read × Right (now table) set × (headerSize ≤ length (now buf)) ⌝ }
+fn run_read(
+    tape: &[u8],
+    table: &[i32],
+    set: Settings,
+    read: Read,
+    places: &[u64],
+    count: usize,
+    buf: &mut [u8],
+) -> Answer
+    requires { ⌜ ReadIn (now tape) (now places) count read × Right (now table) set × (headerSize ≤ length (now buf)) ⌝ }
     ensures result { λ r. ⌜ r ≡ readThen (now (tape .entry)) (now (table .entry)) set (length (now (buf .entry))) read .answer ⌝ }
     ensures records { λ _. ⌜ now (buf .exit) ≡ laidBy (readThen (now (tape .entry)) (now (table .entry)) set (length (now (buf .entry))) read) (now (buf .entry)) ⌝ }
 {
@@ -52,15 +71,23 @@ fn run_read(tape: &[u8], table: &[i32], set: Settings, read: Read, buf: &mut [u8
         Read::Whole(first, end) => {
             let lines = &tape[..end];
             let running = settings::control::with_points(set, false);
-            run_main(lines, table, running, first, buf)
+            run_main(lines, table, running, places, count, first, buf)
         }
     }
 }
 
-// The whole work: every tape, table, settings and buffer give a complete list or one alarm. The contract says the answer and every byte of the buffer.
-pub fn interpret(tape: &[u8], table: &[i32], set: Settings, buf: &mut [u8]) -> Answer
-    ensures result { λ r. ⌜ r ≡ answerOf (now (tape .entry)) (now (table .entry)) set (length (now (buf .entry))) ⌝ }
-    ensures records { λ _. ⌜ now (buf .exit) ≡ bufferOf (now (tape .entry)) (now (table .entry)) set (now (buf .entry)) ⌝ }
+// The whole work: every tape, table, settings, table of places and buffer give a complete list or one alarm. The contract says the answer, every entry of the table of places and every
+// byte of the buffer.
+pub fn interpret(
+    tape: &[u8],
+    table: &[i32],
+    set: Settings,
+    places: &mut [u64],
+    buf: &mut [u8],
+) -> Answer
+    ensures result { λ r. ⌜ r ≡ answerOf (now (tape .entry)) (now (table .entry)) set (length (now (places .entry))) (length (now (buf .entry))) ⌝ }
+    ensures filled { λ _. ⌜ now (places .exit) ≡ placesOf (now (tape .entry)) (now (table .entry)) set (now (places .entry)) (length (now (buf .entry))) ⌝ }
+    ensures records { λ _. ⌜ now (buf .exit) ≡ bufferOf (now (tape .entry)) (now (table .entry)) set (length (now (places .entry))) (now (buf .entry)) ⌝ }
 {
     if settings::control::settings_wrong(table, set) {
         return Answer::Alarm(alarms::BAD_SETTINGS, 0, 0);
@@ -71,6 +98,7 @@ pub fn interpret(tape: &[u8], table: &[i32], set: Settings, buf: &mut [u8]) -> A
     if buf.len() < moves::HEADER_SIZE {
         return Answer::Alarm(alarms::BUFFER_TOO_SHORT, 0, 0);
     }
-    let read = reading::read::read_tape(tape, set.points);
-    run_read(tape, table, set, read, buf)
+    let told = reading::read::read_tape(tape, set.points, places);
+    let read = told.read;
+    run_read(tape, table, set, read, places, told.count, buf)
 }

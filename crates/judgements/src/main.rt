@@ -69,7 +69,9 @@ fn show(name: &[u8], tape: &[u8]) {
         print(name, b" ALARM ", wide(alarms::TAPE_TOO_LONG), b" at ", 0);
         return;
     }
-    let read = reading::read::read_tape(tape, false);
+    let mut places = [0u64; reading::read::MOST_PLACES];
+    let told = reading::read::read_tape(tape, false, &mut places);
+    let read = told.read;
     match read {
         Read::Whole(first, end) => print(name, b" read ", first, b" to ", end),
         Read::Alarm(number, place) => print(name, b" ALARM ", wide(number), b" at ", place),

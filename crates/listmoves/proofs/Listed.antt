@@ -13,10 +13,11 @@ use Rattle.moves.specs.Form.{recordLimit, recordStart, roomOf}
 use Rattle.settings.specs.Listmoves.{listmoves, noOffsets}
 use Rattle.settings.specs.declared.control.Settings.{Settings}
 use Rattle.answers.specs.Answers.{countOf}
+use Rattle.reading.specs.Filling.{mostPlaces}
 use Rattle.interpreter.specs.Answers.{answerOf, bufferOf}
 use Rattle.answers.specs.declared.Answer.{Answer}
 use Rattle.answers.specs.declared.Answer.the-variants.{Complete, Alarm}
-use Rattle.demands.proofs.Holding.{demand-one}
+use Rattle.demands.proofs.Holding.{all-owed}
 use Rattle.listing.specs.Listing.{longestHead, longestRecordLine, longestAlarm, isMade, listingOf, textOf}
 use Rattle.listmoves.specs.Printed.{freshBuffer, printed, textSize}
 
@@ -39,20 +40,20 @@ made-text : (a : Answer) (list : List ℕ) (room : ℕ) → isMade a (length lis
 unfolding textOf
 made-text a list room e = rw e refl
 
-module _ (tape : List ℕ) {table : List ℤ} {set : Settings} {buf : List ℕ} (zero : table ≡ noOffsets) (as-set : set ≡ listmoves) (fresh : buf ≡ freshBuffer) where
-  is-printed : (room : ℕ) → textSize ≤ room → {answer : Answer} {after : List ℕ} → (answer ≡ answerOf tape table set (length buf)) × (after ≡ bufferOf tape table set buf)
+module _ (tape : List ℕ) {table : List ℤ} {set : Settings} {size : ℕ} {buf : List ℕ} (zero : table ≡ noOffsets) (as-set : set ≡ listmoves) (enough : size ≡ mostPlaces) (fresh : buf ≡ freshBuffer) where
+  is-printed : (room : ℕ) → textSize ≤ room → {answer : Answer} {after : List ℕ} → (answer ≡ answerOf tape table set size (length buf)) × (after ≡ bufferOf tape table set size buf)
       → textOf answer after room ≡ printed tape
   unfolding printed
   is-printed room h {answer} {after} ran =
-      let a = answerOf tape noOffsets listmoves (length freshBuffer) in
-      let e = bufferOf tape noOffsets listmoves freshBuffer in
-      let one = demand-one tape noOffsets listmoves freshBuffer in
+      let a = answerOf tape noOffsets listmoves mostPlaces (length freshBuffer) in
+      let e = bufferOf tape noOffsets listmoves mostPlaces freshBuffer in
+      let one = all-owed tape noOffsets listmoves mostPlaces freshBuffer in
       let made = all-made a (length e) room (one .told .count) (one .holds .size ∙ fresh-size) h in
       (λ i. textOf (ran .0 i) (ran .1 i) room)
-      ∙ (λ i. textOf (answerOf tape (zero i) (as-set i) (length (fresh i))) (bufferOf tape (zero i) (as-set i) (fresh i)) room)
+      ∙ (λ i. textOf (answerOf tape (zero i) (as-set i) (enough i) (length (fresh i))) (bufferOf tape (zero i) (as-set i) (enough i) (fresh i)) room)
       ∙ made-text a e room made
 
-  pub listed : {answer : Answer} {after : List ℕ} → (answer ≡ answerOf tape table set (length buf)) × (after ≡ bufferOf tape table set buf) → (out : List ℕ) → textSize ≤ length out
+  pub listed : {answer : Answer} {after : List ℕ} → (answer ≡ answerOf tape table set size (length buf)) × (after ≡ bufferOf tape table set size buf) → (out : List ℕ) → textSize ≤ length out
       → {r : ℕ} {e : List ℕ} → (r ≡ length (textOf answer after (length out))) × ((e ≡ laid out 0 (textOf answer after (length out))) × (r ≤ length out))
       → (r ≡ length (printed tape)) × ((e ≡ laid out 0 (printed tape)) × (r ≤ length out))
   listed ran out h made =

@@ -4,6 +4,7 @@ use mathlib.Core.List.{List}
 use Prim.Native.Nat.{ℕ, _+_, _*_}
 use lib.ListN.{length, replicate}
 use Rattle.moves.specs.Form.{recordLimit, recordStart}
+use Rattle.reading.specs.Filling.{mostPlaces}
 use Rattle.interpreter.specs.Answers.{answerOf, bufferOf}
 use Rattle.settings.specs.Listmoves.{listmoves, noOffsets}
 use Rattle.listing.specs.Listing.{longestHead, longestRecordLine, listingOf}
@@ -12,9 +13,9 @@ use Rattle.listing.specs.Listing.{longestHead, longestRecordLine, listingOf}
 unfoldable pub freshBuffer : List ℕ
 freshBuffer = replicate (recordStart recordLimit) 0
 
--- the listing of what the interpreter answers and leaves in that buffer
+-- the listing of what the interpreter answers and leaves in that buffer; the table of places that is lent has as many entries as every tape can do with
 unfoldable pub printed : List ℕ → List ℕ
-printed tape = listingOf (answerOf tape noOffsets listmoves (length freshBuffer)) (bufferOf tape noOffsets listmoves freshBuffer)
+printed tape = listingOf (answerOf tape noOffsets listmoves mostPlaces (length freshBuffer)) (bufferOf tape noOffsets listmoves mostPlaces freshBuffer)
 
 -- room for every listing
 abbrev pub textSize : ℕ

@@ -15,6 +15,9 @@ const BUFFER: usize = moves::HEADER_SIZE + moves::RECORD_SIZE * moves::RECORD_LI
 const TEXT: usize = listing::lines::LONGEST_HEAD
     + listing::lines::LONGEST_RECORD_LINE * moves::RECORD_LIMIT;
 
+// What the table of places holds before: any number does. (Zeros would be laid byte by byte.)
+const UNUSED: u64 = 1;
+
 fn fresh_buffer() -> [u8; BUFFER]
     ensures { λ r. ⌜ r ≡ freshBuffer ⌝ }
 {
@@ -37,7 +40,8 @@ fn list_moves(tape: &[u8], out: &mut [u8]) -> usize
     let table = settings::usual::no_offsets();
     let mut buf = fresh_buffer();
     let set = settings::usual::of_listmoves();
-    let answer = interpreter::interpret::interpret(tape, &table, set, &mut buf);
+    let mut places = [UNUSED; reading::read::MOST_PLACES];
+    let answer = interpreter::interpret::interpret(tape, &table, set, &mut places, &mut buf);
     listing::lines::put_listing(answer, &buf, out)
 }
 

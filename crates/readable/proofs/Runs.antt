@@ -142,7 +142,7 @@ module _ (t : Task) (range : InRange (t .settings)) where
       (chain-sane sts (runAfter t (st .place) r) s (sound-after (t .table) (t .settings) (r .state) b (t .room - r .count) k range h) (l .1))
 
 -- ---- of every input
-module _ (tape : List ℕ) (table : List ℤ) (set : Settings) (b : List ℕ) where
+module _ (tape : List ℕ) (table : List ℤ) (set : Settings) (size : ℕ) (b : List ℕ) where
   record Shown (x : Result) : Type 0 where
     records : Every Sane (recordsOf (x .steps))
 
@@ -157,16 +157,16 @@ module _ (tape : List ℕ) (table : List ℤ) (set : Settings) (b : List ℕ) wh
       let x = programRun t p mostCalls r in
       record { records = chain-sane t range (x .steps) r (x .outcome .run) sound (program-leads t p mostCalls r on .linked) }
 
-  shown : Shown (interpretation tape table set (length b))
+  shown : Shown (interpretation tape table set size (length b))
   shown =
-      every-result (λ _. Shown) tape table set (length b) (λ _ alarm place _ _ _. none-shown alarm place)
+      every-result (λ _. Shown) tape table set size (length b) (λ _ alarm place _ _ _. none-shown alarm place)
       (λ h _ k first end p on. run-shown (taskOf (take end tape) table (withPoints false set) first (length b)) (k .range) (start-sound (set .x) (set .z) (k .starts .x) (k .starts .z)) (mainAt set p) on)
 
   -- EVERY LIST THAT A RUN WRITES IS READ BACK
-  pub list-is-read : ListIsRead tape table set b
+  pub list-is-read : ListIsRead tape table set size b
   list-is-read count e =
-      let l : IsList count (bufferOf tape table set b) (recordsRun tape table set b) =
-      subst (λ (n : ℕ). IsList n (bufferOf tape table set b) (recordsRun tape table set b)) (ap countOf e) (demand-two tape table set b (ap numberOf e)) in
-      let lawful : Lawful (recordsRun tape table set b) = record { few = l .lawful .few; each = l .lawful .each; right = row-right (recordsRun tape table set b) (shown .records) } in
-      let form : WrittenForm (listAfter tape table set b count) (recordsRun tape table set b) = record { lawful = lawful; bytes = l .written } in
-      (form, written-is-read (listAfter tape table set b count) (recordsRun tape table set b) form)
+      let l : IsList count (bufferOf tape table set size b) (recordsRun tape table set size b) =
+      subst (λ (n : ℕ). IsList n (bufferOf tape table set size b) (recordsRun tape table set size b)) (ap countOf e) (demand-two tape table set size b (ap numberOf e)) in
+      let lawful : Lawful (recordsRun tape table set size b) = record { few = l .lawful .few; each = l .lawful .each; right = row-right (recordsRun tape table set size b) (shown .records) } in
+      let form : WrittenForm (listAfter tape table set size b count) (recordsRun tape table set size b) = record { lawful = lawful; bytes = l .written } in
+      (form, written-is-read (listAfter tape table set size b count) (recordsRun tape table set size b) form)

@@ -1,5 +1,6 @@
 -- 01, "Alarms and their order": "then lines from the front, each 7, 5, 6, 8, 9". (02 takes 8 out, and puts 21 "after 5 and before 6 on its line".) Alarm 6: "line starts with another word, program number repeated or above 6999,
--- block number repeated in its program". "Reading ends after a line whose last word is M30 (001)."
+-- block number repeated in its program". "Reading ends after a line whose last word is M30 (001)." This is the reading of the first layout, which knows no table of places; what 02 adds to it
+-- stands in Filling.antt.
 use mathlib.Core.Bool.{Bool, false, cond, _&&_, _||_}
 use mathlib.Core.List.{List, [], _∷_}
 use Prim.Native.Nat.{ℕ}
@@ -69,3 +70,12 @@ unfoldable pub readOf : Bool → List ℕ → Read
 readOf points s =
     let first = seekFrom opensTape s 0 in
     cond (ltb first (length s)) (readLines points first (length s) nothingRead (lines s first)) (Alarm noProgram 0)
+
+-- ---- 01's number and place for each case of what comes of reading; both are 0 where a tape was read whole
+abbrev pub numberOf : Read → ℕ
+numberOf (Whole first end) = 0
+numberOf (Alarm n place) = n
+
+abbrev pub placeOf : Read → ℕ
+placeOf (Whole first end) = 0
+placeOf (Alarm n place) = place

@@ -1,11 +1,11 @@
-// Reading a tape from its first program line to the end of reading. Repeated numbers are found by two tables, in the same pass:
-// a flag for each program number, and for each block number the mark of the program in which it was last seen.
+// Reading a tape from its first program line to the end of reading. The lent table of places is filled in the same pass, and a repeated number is found in it.
 use block::words::Head;
 ghost use mathlib.Core.Path.{_≡_};
-ghost use Prim.Native.Nat.{_+_, _≤_, _<_};
+ghost use Prim.Native.Nat.{_<_, _≤_};
 ghost use lib.ListN.{length};
 ghost use Rattle.tape.specs.Lines.{lines};
-ghost use Rattle.reading.specs.Reading.{longestTape, nothingRead, readLines, readOf};
+ghost use Rattle.reading.specs.Reading.{longestTape, nothingRead};
+ghost use Rattle.reading.specs.Filling.{nothingFilled, readLinesWith, readWith, told, Tells, placesBehind};
 
 // The place of the first line and the place behind the last line that is read; or an alarm and the first byte of its line (0 where there is no line).
 pub enum Read {
@@ -13,35 +13,36 @@ pub enum Read {
     Alarm(u8, usize),
 }
 
+// What came of reading, and how many entries of the table of places are filled.
+pub struct TapeRead {
+    pub read: Read,
+    pub count: usize,
+}
+
 // The longest tape that is read (alarm 2).
 pub const LONGEST_TAPE: usize = 65_535;
 
-// The mark of a program: the place of its line and one more, so that no two programs have the same, and none has 0. A tape that is not too long has no place that 16 bits do not hold.
-fn mark_of(place: usize) -> u16
-    requires { ⌜ place < longestTape ⌝ }
-    ensures { λ r. ⌜ r ≡ place + 1 ⌝ }
-{
-    (place + 1) as u16
-}
+// So many entries of the table of places every tape can do with.
+pub const MOST_PLACES: usize = 21_845;
 
-fn wide(n: u32) -> usize
-    ensures { λ r. ⌜ r ≡ n ⌝ }
-{
-    n as usize
-}
+// The present program in front of the first program line: no program has this number.
+const NO_PROGRAM: u32 = 65_535;
 
 // The lines from `first` on.
-fn read_lines(tape: &[u8], first: usize, points: bool) -> Read
+fn read_lines(tape: &[u8], first: usize, points: bool, places: &mut [u64]) -> TapeRead
     requires { ⌜ (first < length (now tape)) × (length (now tape) ≤ longestTape) ⌝ }
-    ensures { λ r. ⌜ r ≡ readLines points first (length (now (tape .entry))) nothingRead (lines (now (tape .entry)) first) ⌝ }
+    ensures read { λ r. ⌜ r ≡ told (readLinesWith points (length (now (places .entry))) first (length (now (tape .entry))) nothingRead nothingFilled (lines (now (tape .entry)) first)) ⌝ }
+    ensures filled { λ _. ⌜ now (places .exit) ≡ placesBehind (readLinesWith points (length (now (places .entry))) first (length (now (tape .entry))) nothingRead nothingFilled (lines (now (tape .entry)) first) .row) (now (places .entry)) ⌝ }
 {
-    let mut programs = [false; 7000];
-    let mut blocks = [0u16; 10000];
-    let mut mark = mark_of(first);
+    let mut present = NO_PROGRAM;
+    let mut count: usize = 0;
     let mut p = first;
     loop {
         if p >= tape.len() {
-            return Read::Whole(first, tape.len());
+            return TapeRead {
+                read: Read::Whole(first, tape.len()),
+                count,
+            };
         }
         let line = tape::line::line_at(tape, p);
         let stop = line.stop;
@@ -49,10 +50,16 @@ fn read_lines(tape: &[u8], first: usize, points: bool) -> Read
         let judged = rules::judge::judge_line(&tape[p..stop]);
         let alarm = judged.alarm;
         if alarm != 0 {
-            return Read::Alarm(alarm, p);
+            return TapeRead {
+                read: Read::Alarm(alarm, p),
+                count,
+            };
         }
         if points & judged.pointless {
-            return Read::Alarm(alarms::MISSING_POINT, p);
+            return TapeRead {
+                read: Read::Alarm(alarms::MISSING_POINT, p),
+                count,
+            };
         }
         let head = judged.head;
         match head {
@@ -60,34 +67,72 @@ fn read_lines(tape: &[u8], first: usize, points: bool) -> Read
                 p = after;
             }
             Head::Other(_) => {
-                return Read::Alarm(alarms::BAD_LINE_START, p);
+                return TapeRead {
+                    read: Read::Alarm(alarms::BAD_LINE_START, p),
+                    count,
+                };
             }
             Head::ProgramLine(n) => {
                 if n > settings::control::HIGHEST_PROGRAM {
-                    return Read::Alarm(alarms::BAD_LINE_START, p);
+                    return TapeRead {
+                        read: Read::Alarm(alarms::BAD_LINE_START, p),
+                        count,
+                    };
                 }
-                let k = wide(n);
-                if programs[k] {
-                    return Read::Alarm(alarms::BAD_LINE_START, p);
+                let key = places::key_of(n, 0);
+                if places::holds(places, count, key) {
+                    return TapeRead {
+                        read: Read::Alarm(alarms::BAD_LINE_START, p),
+                        count,
+                    };
                 }
                 if judged.broken {
-                    return Read::Alarm(alarms::WORD_RULES, p);
+                    return TapeRead {
+                        read: Read::Alarm(alarms::WORD_RULES, p),
+                        count,
+                    };
                 }
-                programs[k] = true;
-                mark = mark_of(p);
+                if count >= places.len() {
+                    return TapeRead {
+                        read: Read::Alarm(alarms::PLACES_TOO_SHORT, p),
+                        count,
+                    };
+                }
+                let entry = places::entry_of(key, p);
+                places::insert(places, count, entry);
+                present = n;
+                count += 1;
                 p = after;
             }
             Head::BlockLine(n) => {
-                let k = wide(n);
-                if blocks[k] == mark {
-                    return Read::Alarm(alarms::BAD_LINE_START, p);
+                let slot = n + 1;
+                let own = places::key_of(present, slot);
+                if places::holds(places, count, own) {
+                    return TapeRead {
+                        read: Read::Alarm(alarms::BAD_LINE_START, p),
+                        count,
+                    };
                 }
                 if judged.broken {
-                    return Read::Alarm(alarms::WORD_RULES, p);
+                    return TapeRead {
+                        read: Read::Alarm(alarms::WORD_RULES, p),
+                        count,
+                    };
                 }
-                blocks[k] = mark;
+                if count >= places.len() {
+                    return TapeRead {
+                        read: Read::Alarm(alarms::PLACES_TOO_SHORT, p),
+                        count,
+                    };
+                }
+                let entry = places::entry_of(own, p);
+                places::insert(places, count, entry);
+                count += 1;
                 if judged.ends {
-                    return Read::Whole(first, after);
+                    return TapeRead {
+                        read: Read::Whole(first, after),
+                        count,
+                    };
                 }
                 p = after;
             }
@@ -96,13 +141,17 @@ fn read_lines(tape: &[u8], first: usize, points: bool) -> Read
 }
 
 // A whole tape, whatever its bytes are. That it is not too long was judged before (alarm 2). `points`: whether the numbers of X Z U W must have their points.
-pub fn read_tape(tape: &[u8], points: bool) -> Read
+pub fn read_tape(tape: &[u8], points: bool, places: &mut [u64]) -> TapeRead
     requires { ⌜ length (now tape) ≤ longestTape ⌝ }
-    ensures { λ r. ⌜ r ≡ readOf points (now (tape .entry)) ⌝ }
+    ensures read { λ r. ⌜ Tells r (readWith points (length (now (places .entry))) (now (tape .entry))) ⌝ }
+    ensures filled { λ _. ⌜ now (places .exit) ≡ placesBehind (readWith points (length (now (places .entry))) (now (tape .entry)) .row) (now (places .entry)) ⌝ }
 {
     let first = tape::line::first_line(tape);
     if first >= tape.len() {
-        return Read::Alarm(alarms::NO_PROGRAM, 0);
+        return TapeRead {
+            read: Read::Alarm(alarms::NO_PROGRAM, 0),
+            count: 0,
+        };
     }
-    read_lines(tape, first, points)
+    read_lines(tape, first, points, places)
 }

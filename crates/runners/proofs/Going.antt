@@ -20,7 +20,7 @@ use Rattle.moves.proofs.Rows.{row-on}
 use Rattle.tape.specs.Lines.{lineAt}
 use Rattle.settings.specs.declared.control.Settings.{Settings}
 use Rattle.moves.proofs.Room.{room-fits}
-use Rattle.ahead.specs.Ahead.{onto}
+use Rattle.ahead.specs.Ahead.{onto, FoundAt}
 use Rattle.steps.specs.Steps.{Task, taskOf, Step, Taken, takenFrom}
 use Rattle.steps.specs.Meets.{Ready, Fit, Needs, Goes, Wrote, StepMeets}
 use Rattle.ahead.specs.declared.ProgramAt.{ProgramAt}
@@ -159,10 +159,10 @@ module _ (tape : List ℕ) (table : List ℤ) (set : Settings) (first : ℕ) (b�
         subst (Going t program calls b₀ r₀ b₀ r₀) (sym e) (start f few (subst (λ (p : ℕ). p ≤ length tape) e h))
 
     -- what a step asks for
-    pub step-needs : {b : List ℕ} {r : Run} {at : ℕ} → Going t program calls b₀ r₀ b r at → program .line ≤ length tape → Ready t (length b₀)
-        → Needs (taskOf tape table set first (length b)) (length b) (on program calls at) r
-    step-needs {b} {r} {at} g p k =
-        subst (λ (n : ℕ). Needs (taskOf tape table set first n) n (on program calls at) r) (sym (g .size)) (record { ready = k; fit = g .took .fit; line = p; here = g .here })
+    pub step-needs : {b places : List ℕ} {count : ℕ} {r : Run} {at : ℕ} → Going t program calls b₀ r₀ b r at → FoundAt tape first program → Ready t (length b₀) places count
+        → Needs (taskOf tape table set first (length b)) (length b) places count (on program calls at) r
+    step-needs {b} {places} {count} {r} {at} g p k =
+        subst (λ (n : ℕ). Needs (taskOf tape table set first n) n places count (on program calls at) r) (sym (g .size)) (record { ready = k; fit = g .took .fit; there = p; here = g .here })
 
     -- the program at a fuel, a place and a run
     abbrev rest : ℕ → ℕ → Run → Ran
@@ -248,10 +248,11 @@ module _ (tape : List ℕ) (table : List ℤ) (set : Settings) (first : ℕ) (b�
         pub less-call : d .run .«blocks_left» < r .«blocks_left»
         less-call = goes h .0
 
-        pub call-begins : Ready t (length b₀) → r₀ .«blocks_left» ≤ blocksInAll → Begins (taskOf tape table set first (length e)) (length e) p (d .run)
-        call-begins k few =
-            subst (λ (n : ℕ). Begins (taskOf tape table set first n) n p (d .run)) (sym size-after)
-            (record { ready = k; fit = m .wrote .fit; line = goes h .1; few = omega (arith, less-call, g .took .left, few) })
+        pub call-begins : {places : List ℕ} {count : ℕ} → Ready t (length b₀) places count → r₀ .«blocks_left» ≤ blocksInAll
+            → Begins (taskOf tape table set first (length e)) (length e) places count p (d .run)
+        call-begins {places} {count} k few =
+            subst (λ (n : ℕ). Begins (taskOf tape table set first n) n places count p (d .run)) (sym size-after)
+            (record { ready = k; fit = m .wrote .fit; there = goes h .1; few = omega (arith, less-call, g .took .left, few) })
 
         module _ {o : Outcome} {u : List ℕ} (q₀ : RanMeets (taskOf tape table set first (length e)) (called (taskOf tape table set first (length e)) calls p times (d .run)) e (d .run) o u) where
           q : RanMeets t (called t calls p times (d .run)) e (d .run) o u
@@ -317,10 +318,11 @@ module _ (tape : List ℕ) (table : List ℤ) (set : Settings) (first : ℕ) (b�
     all {b} {r} g h = after (g .done) refl (g .same ∙ ap (λ (m : ℕ). pre (g .done) (repeated body m r)) h) (g .took) (nothing refl (g .took .fit))
 
     module _ {b : List ℕ} {r : Run} {n : ℕ} (g : Repeating t program calls times b₀ r₀ b r n) (some : 0 < n) where
-      pub run-begins : program .line ≤ length tape → Ready t (length b₀) → r₀ .«blocks_left» ≤ blocksInAll → Begins (taskOf tape table set first (length b)) (length b) program r
-      run-begins p k few =
-          subst (λ (m : ℕ). Begins (taskOf tape table set first m) m program r) (sym (g .size))
-          (record { ready = k; fit = g .took .fit; line = p; few = omega (arith, g .took .left, few) })
+      pub run-begins : {places : List ℕ} {count : ℕ} → FoundAt tape first program → Ready t (length b₀) places count → r₀ .«blocks_left» ≤ blocksInAll
+          → Begins (taskOf tape table set first (length b)) (length b) places count program r
+      run-begins {places} {count} p k few =
+          subst (λ (m : ℕ). Begins (taskOf tape table set first m) m places count program r) (sym (g .size))
+          (record { ready = k; fit = g .took .fit; there = p; few = omega (arith, g .took .left, few) })
 
       module _ {o : Outcome} {u : List ℕ} (q₀ : RanMeets (taskOf tape table set first (length b)) (programRun (taskOf tape table set first (length b)) program (calls - 1) r) b r o u) where
         back : RanMeets t (body r) b r o u

@@ -2,7 +2,7 @@
 use mathlib.Core.Path.{_≡_}
 use mathlib.Core.List.{List}
 use Prim.Native.Nat.{ℕ, _≤_}
-use lib.ListN.{length}
+use Rattle.ahead.specs.Ahead.{FoundAt}
 use Rattle.ahead.specs.declared.ProgramAt.{ProgramAt}
 use Rattle.steps.specs.Steps.{Task, Step}
 use Rattle.steps.specs.Meets.{Ready, Fit, Wrote}
@@ -10,11 +10,11 @@ use Rattle.steps.specs.declared.step.Run.{Run}
 use Rattle.runners.specs.declared.run.Outcome.{Outcome}
 use Rattle.runners.specs.Runs.{blocksInAll, Ran, recordsOf, called, programRun}
 
--- what a program asks for that is begun: its line lies on the tape, and no more blocks are left than a run may begin
-pub record Begins (t : Task) (bytes : ℕ) (program : ProgramAt) (r : Run) : Type 0 where
-  pub ready : Ready t bytes
+-- what a program asks for that is begun: it is on the tape, and no more blocks are left than a run may begin
+pub record Begins (t : Task) (bytes : ℕ) (places : List ℕ) (count : ℕ) (program : ProgramAt) (r : Run) : Type 0 where
+  pub ready : Ready t bytes places count
   pub fit : Fit t r
-  pub line : program .line ≤ length (t .tape)
+  pub there : FoundAt (t .tape) (t .first) program
   pub few : r .«blocks_left» ≤ blocksInAll
 
 -- from the run r and the buffer b to the run s and the buffer e some steps were taken

@@ -27,13 +27,15 @@ pub fn run_program(
     tape: &[u8],
     table: &[i32],
     set: Settings,
+    places: &[u64],
+    count: usize,
     first: usize,
     buf: &mut [u8],
     program: ProgramAt,
     calls: u32,
     run: Run,
 ) -> Outcome
-    requires { ⌜ Begins (taskOf (now tape) (now table) set first (length (now buf))) (length (now buf)) program run ⌝ }
+    requires { ⌜ Begins (taskOf (now tape) (now table) set first (length (now buf))) (length (now buf)) (now places) count program run ⌝ }
     ensures { λ r. ⌜ ProgramMeets (taskOf (now (tape .entry)) (now (table .entry)) set first (length (now (buf .entry)))) (now (buf .entry)) program calls run r (now (buf .exit)) ⌝ }
 {
     let line = tape::line::line_at(tape, program.line);
@@ -45,7 +47,7 @@ pub fn run_program(
             calls_left: calls,
             at,
         };
-        let done = steps::step::take_step(tape, table, set, first, buf, frame, now);
+        let done = steps::step::take_step(tape, table, set, places, count, first, buf, frame, now);
         let onward = done.onward;
         let then = done.run;
         let after = done.after;
@@ -59,7 +61,19 @@ pub fn run_program(
                 at = place;
             }
             Onward::Call(called, times) => {
-                let o = run_call(tape, table, set, first, buf, called, calls, times, then);
+                let o = run_call(
+                    tape,
+                    table,
+                    set,
+                    places,
+                    count,
+                    first,
+                    buf,
+                    called,
+                    calls,
+                    times,
+                    then,
+                );
                 let ending = o.ending;
                 let back = o.run;
                 match ending {
@@ -99,6 +113,8 @@ fn run_call(
     tape: &[u8],
     table: &[i32],
     set: Settings,
+    places: &[u64],
+    count: usize,
     first: usize,
     buf: &mut [u8],
     program: ProgramAt,
@@ -106,7 +122,7 @@ fn run_call(
     times: u32,
     run: Run,
 ) -> Outcome
-    requires { ⌜ Begins (taskOf (now tape) (now table) set first (length (now buf))) (length (now buf)) program run ⌝ }
+    requires { ⌜ Begins (taskOf (now tape) (now table) set first (length (now buf))) (length (now buf)) (now places) count program run ⌝ }
     ensures { λ r. ⌜ CallMeets (taskOf (now (tape .entry)) (now (table .entry)) set first (length (now (buf .entry)))) (now (buf .entry)) program calls times run r (now (buf .exit)) ⌝ }
 {
     if calls == 0 {
@@ -118,7 +134,18 @@ fn run_call(
     let mut now = run;
     let mut n = times;
     while 0 < n {
-        let o = run_program(tape, table, set, first, buf, program, calls - 1, now);
+        let o = run_program(
+            tape,
+            table,
+            set,
+            places,
+            count,
+            first,
+            buf,
+            program,
+            calls - 1,
+            now,
+        );
         let ending = o.ending;
         let back = o.run;
         match ending {

@@ -48,10 +48,11 @@ use Rattle.ahead.specs.declared.Onward.{Onward}
 use Rattle.ahead.specs.declared.Onward.the-variants.{On, Call, Jump, Return, End, Stop}
 use Rattle.steps.specs.declared.step.Run.{Run}
 use Rattle.steps.specs.declared.step.StepDone.{StepDone}
-use Rattle.ahead.specs.Ahead.{onto, lookedUp}
+use Rattle.ahead.specs.Ahead.{onto, lookedBy, lookedUp, lookedUpIn, FoundAt}
 use Rattle.steps.specs.Steps.{Task, blockIn, blockOn, onwardBy, onwardOf, alarmBy, alarmAt, runAfter, doneAt, recordsAt, passedBy, Taken, takenBy, takenFrom}
-use Rattle.steps.specs.Meets.{Fit, Needs, Starts, Stands, Goes, Wrote, StepMeets, BlockMeets}
-use Rattle.ahead.proofs.Places.{OnwardOn, looked-on}
+use Rattle.steps.specs.Meets.{onwardIn, Fit, Needs, Starts, Stands, Goes, Wrote, StepMeets, BlockMeets}
+use Rattle.finding.specs.Finds.{Finds}
+use Rattle.ahead.proofs.Places.{OnwardOn, looked-on, CallFound, looked-found, looked-same}
 
 -- ---- the words of a line
 by-length : (t : Bool) (b c : Block) → Worded b → Worded c → Worded (cond t b c)
@@ -93,6 +94,20 @@ onward-on tape set first f left b = go (eqb left 0)
     go true = refl
     go false = looked-on tape set first f (requestOf b)
 
+onward-found : (tape : List ℕ) (set : Settings) (first : ℕ) (f : Frame) (left : ℕ) (b : Block) → CallFound tape first (onwardBy tape set first f left b)
+unfolding onwardBy
+onward-found tape set first f left b = go (eqb left 0)
+  where
+    go : (t : Bool) → CallFound tape first (cond t (Stop tooManyBegun (f .at)) (lookedUp tape set first f (requestOf b)))
+    go true = tt
+    go false = looked-found tape set first f (requestOf b)
+
+-- it is the same by the table of places
+pub onward-same : (row tape : List ℕ) (first : ℕ) → Finds row tape first → (set : Settings) (f : Frame) → FoundAt tape first (f .program) → (left : ℕ) (b : Block)
+    → onwardIn row set f left b ≡ onwardBy tape set first f left b
+unfolding onwardIn onwardBy
+onward-same row tape first t set f h left b = ap (cond (eqb left 0) (Stop tooManyBegun (f .at))) (looked-same row tape first t set f h (requestOf b))
+
 -- where it is no alarm, blocks are left to begin
 pub some-left : (tape : List ℕ) (set : Settings) (first : ℕ) (f : Frame) (left : ℕ) (b : Block) → alarmBy (onwardBy tape set first f left b) ≡ 0 → 0 < left
 unfolding onwardBy alarmBy
@@ -105,7 +120,7 @@ unfolding noWords has gIn mIn steered flowBy requestOf
 request-none = refl
 
 onward-none : (tape : List ℕ) (set : Settings) (first : ℕ) (f : Frame) (left : ℕ) (b : Block) → b ≡ noWords → 0 < left → onwardBy tape set first f left b ≡ On
-unfolding onwardBy lookedUp
+unfolding onwardBy lookedUp lookedBy
 onward-none tape set first f left b e some =
     rw (ne-eqb left 0 (λ z. absurd (omega (arith, some, z)))) (ap (λ (x : Block). lookedUp tape set first f (requestOf x)) e ∙ ap (lookedUp tape set first f) request-none)
 
@@ -113,16 +128,17 @@ quiet-on : alarmBy On ≡ 0
 unfolding alarmBy
 quiet-on = refl
 
-goes-of : (t : Task) (r s : Run) (v : List Record) (w : Onward) → OnwardOn (length (t .tape)) w → alarmBy w ≡ 0 → s .«blocks_left» < r .«blocks_left» → Goes t r s v w
+goes-of : (t : Task) (r s : Run) (v : List Record) (w : Onward) → OnwardOn (length (t .tape)) w → CallFound (t .tape) (t .first) w → alarmBy w ≡ 0 → s .«blocks_left» < r .«blocks_left»
+    → Goes t r s v w
 unfolding alarmBy
-goes-of t r s v On h e l = l
-goes-of t r s v (Call p times) h e l = (l, omega (arith, h))
-goes-of t r s v (Jump p) h e l = (l, omega (arith, h))
-goes-of t r s v Return h e l = tt
-goes-of t r s v End h e l = tt
-goes-of t r s v (Stop alarm place) h e l = absurd (alarm-above false alarm h e)
+goes-of t r s v On h k e l = l
+goes-of t r s v (Call p times) h k e l = (l, k)
+goes-of t r s v (Jump p) h k e l = (l, omega (arith, h))
+goes-of t r s v Return h k e l = tt
+goes-of t r s v End h k e l = tt
+goes-of t r s v (Stop alarm place) h k e l = absurd (alarm-above false alarm h e)
 
-module _ (t : Task) (b : List ℕ) (f : Frame) (r : Run) (n : Needs t (length b) f r) where
+module _ (t : Task) (b : List ℕ) (f : Frame) (r : Run) {places : List ℕ} {count : ℕ} (n : Needs t (length b) places count f r) where
   abbrev w : Onward
   w = onwardOf t f r
 
@@ -233,7 +249,8 @@ module _ (t : Task) (b : List ℕ) (f : Frame) (r : Run) (n : Needs t (length b)
               fit = subst (Fit t) (sym run) fit-after;
               left = omega (arith, less);
             };
-            goes = goes-of t r u (recordsAt t f r) v (subst (OnwardOn (length (t .tape))) (sym same-onward) (onward-on (t .tape) (t .settings) (t .first) f (r .«blocks_left») words)) (ap alarmBy same-onward ∙ fine) less;
+            goes = goes-of t r u (recordsAt t f r) v (subst (OnwardOn (length (t .tape))) (sym same-onward) (onward-on (t .tape) (t .settings) (t .first) f (r .«blocks_left») words))
+                (subst (CallFound (t .tape) (t .first)) (sym same-onward) (onward-found (t .tape) (t .settings) (t .first) f (r .«blocks_left») words)) (ap alarmBy same-onward ∙ fine) less;
             after = k;
           }
 
@@ -263,7 +280,7 @@ module _ (tape : List ℕ) (f : Frame) {l : BlockAt} (s : Stands tape f l) where
       sym (words-are (sym (words-bare line (l .behind) behind-number (omega (arith, same-place, h, length-take (l .stop - f .at) (drop (f .at) tape))))))
 
 -- ---- a block without words is passed
-pub passed : (t : Task) (b : List ℕ) (f : Frame) (r : Run) → Needs t (length b) f r → blockOn (t .tape) (f .at) ≡ noWords → 0 < r .«blocks_left»
+pub passed : (t : Task) (b : List ℕ) (f : Frame) (r : Run) {places : List ℕ} {count : ℕ} → Needs t (length b) places count f r → blockOn (t .tape) (f .at) ≡ noWords → 0 < r .«blocks_left»
     → {after : ℕ} → after ≡ lineAt (t .tape) (f .at) .after → after ≤ length (t .tape) → BlockMeets t b f r (passedBy r after) b
 unfolding rowBytes
 passed t b f r n e some h k =
@@ -299,10 +316,10 @@ pub both : (a b : Bool) → (a && b) ≡ true → (a ≡ true) × (b ≡ true)
 both true b e = (refl, e)
 both false b e = absurd (subst T (sym e) tt)
 
-pub found-needs : {t : Task} {bytes p : ℕ} {f : Frame} {r : Run} → Needs t bytes f r → p ≤ length (t .tape) → Needs t bytes (onto f p) r
-found-needs n h = record { ready = n .ready; fit = n .fit; line = n .line; here = h }
+pub found-needs : {t : Task} {bytes count p : ℕ} {places : List ℕ} {f : Frame} {r : Run} → Needs t bytes places count f r → p ≤ length (t .tape) → Needs t bytes places count (onto f p) r
+found-needs n h = record { ready = n .ready; fit = n .fit; there = n .there; here = h }
 
-module _ (t : Task) (b : List ℕ) (f : Frame) (r : Run) (n : Needs t (length b) f r) where
+module _ (t : Task) (b : List ℕ) (f : Frame) (r : Run) {places : List ℕ} {count : ℕ} (n : Needs t (length b) places count f r) where
   taken-is : {g : Found} → firstBlock (lines (t .tape) (f .at)) ≡ g → takenFrom t f r ≡ takenBy t f r g
   unfolding takenFrom
   taken-is e = ap (takenBy t f r) e

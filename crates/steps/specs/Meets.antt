@@ -1,18 +1,26 @@
 -- What is known before and after a step. It serves contracts and proofs; what a step is stands in Steps.antt.
 use mathlib.Core.Path.{_≡_}
+use mathlib.Core.Bool.{cond}
 use mathlib.Core.List.{List, []}
 use Prim.Native.Nat.{ℕ, _+_, _≤_, _<_}
-use lib.ListN.{length}
+use lib.Dec.{eqb}
+use lib.ListN.{length, take}
 use Rattle.whole.specs.Bytes.{laid}
+use Rattle.alarms.specs.Numbers.{tooManyBegun}
 use Rattle.moves.specs.Form.{headerSize, recordStart, rowBytes}
 use Rattle.moves.specs.declared.record.Record.{Record}
 use Rattle.settings.specs.Known.{Table, InRange}
+use Rattle.settings.specs.declared.control.Settings.{Settings}
 use Rattle.block.specs.Words.{startOf}
+use Rattle.block.specs.declared.words.Block.{Block}
 use Rattle.block.specs.declared.words.Head.{Head}
 use Rattle.block.specs.declared.words.LineStart.the-variants.{With}
 use Rattle.finding.specs.Finding.{blockAt, BlockIn}
+use Rattle.finding.specs.Finds.{Finds}
 use Rattle.finding.specs.declared.BlockAt.{BlockAt}
 use Rattle.state.specs.Known.{Sound}
+use Rattle.state.specs.Request.{requestOf}
+use Rattle.ahead.specs.Ahead.{lookedUpIn, FoundAt}
 use Rattle.ahead.specs.declared.Frame.{Frame}
 use Rattle.ahead.specs.declared.Onward.{Onward}
 use Rattle.ahead.specs.declared.Onward.the-variants.{On, Call, Jump, Return, End, Stop}
@@ -20,24 +28,29 @@ use Rattle.steps.specs.declared.step.Run.{Run}
 use Rattle.steps.specs.declared.step.StepDone.{StepDone}
 use Rattle.steps.specs.Steps.{Task, doneAt, recordsAt, takenFrom}
 
+-- what a block asks of the runner, as the code looks it up: by the row of the table of places
+unfoldable pub onwardIn : List ℕ → Settings → Frame → ℕ → Block → Onward
+onwardIn row set f left b = cond (eqb left 0) (Stop tooManyBegun (f .at)) (lookedUpIn row set f (requestOf b))
+
 -- ---- before it
--- alarms 1 and 3 were judged before, and the first line lies on the tape
-pub record Ready (t : Task) (bytes : ℕ) : Type 0 where
+-- alarms 1 and 3 were judged before, and what is looked up in the first entries of the table of places is what the walk finds
+pub record Ready (t : Task) (bytes : ℕ) (places : List ℕ) (count : ℕ) : Type 0 where
   pub table : Table (t .table)
   pub range : InRange (t .settings)
-  pub first : t .first ≤ length (t .tape)
   pub header : headerSize ≤ bytes
+  pub filled : count ≤ length places
+  pub finds : Finds (take count places) (t .tape) (t .first)
 
 -- the machine stands where a block may begin, and no more records are written than there is room for
 pub record Fit (t : Task) (r : Run) : Type 0 where
   pub sound : Sound (r .state)
   pub count : r .count ≤ t .room
 
--- all that a step asks for: the program's line and the place from which the next block is looked for lie on the tape
-pub record Needs (t : Task) (bytes : ℕ) (f : Frame) (r : Run) : Type 0 where
-  pub ready : Ready t bytes
+-- all that a step asks for: the program is on the tape, and so is the place from which the next block is looked for
+pub record Needs (t : Task) (bytes : ℕ) (places : List ℕ) (count : ℕ) (f : Frame) (r : Run) : Type 0 where
+  pub ready : Ready t bytes places count
   pub fit : Fit t r
-  pub line : f .program .line ≤ length (t .tape)
+  pub there : FoundAt (t .tape) (t .first) (f .program)
   pub here : f .at ≤ length (t .tape)
 
 -- a line whose first word ends at `behind`
@@ -52,10 +65,10 @@ pub record Stands (tape : List ℕ) (f : Frame) (l : BlockAt) : Type 0 where
   pub known : BlockIn tape l
 
 -- ---- after it
--- the places that the runner goes to lie on the tape, a block that was done leaves one fewer to begin, and a refused one has written nothing
+-- a program that is called and the place that is jumped to are on the tape, a block that was done leaves one fewer to begin, and a refused one has written nothing
 abbrev pub Goes : Task → Run → Run → List Record → Onward → Type 0
 Goes t r s v On = s .«blocks_left» < r .«blocks_left»
-Goes t r s v (Call p times) = (s .«blocks_left» < r .«blocks_left») × (p .line ≤ length (t .tape))
+Goes t r s v (Call p times) = (s .«blocks_left» < r .«blocks_left») × FoundAt (t .tape) (t .first) p
 Goes t r s v (Jump p) = (s .«blocks_left» < r .«blocks_left») × (p ≤ length (t .tape))
 Goes t r s v Return = Unit {0}
 Goes t r s v End = Unit {0}

@@ -9,9 +9,10 @@ use settings::control::Settings;
 use state::modal::State;
 ghost use mathlib.Core.Path.{_≡_};
 ghost use Prim.Native.Nat.{_≤_, _<_};
-ghost use lib.ListN.{length};
-ghost use Rattle.steps.specs.Steps.{taskOf, blockIn, onwardBy, alarmBy, passedBy};
-ghost use Rattle.steps.specs.Meets.{Needs, Starts, Stands, StepMeets, BlockMeets};
+ghost use lib.ListN.{length, take};
+ghost use Rattle.places.specs.Places.{Row};
+ghost use Rattle.steps.specs.Steps.{taskOf, blockIn, alarmBy, passedBy};
+ghost use Rattle.steps.specs.Meets.{onwardIn, Needs, Starts, Stands, StepMeets, BlockMeets};
 
 // A run between two blocks: the machine's state, how many blocks may still be begun, and how many records are written.
 pub struct Run {
@@ -54,15 +55,22 @@ fn words_of(line: &[u8], behind: usize) -> Block
 }
 
 // What the block at the frame's place asks of the runner, where so many blocks may still begin: alarms 13, 14, 10, 11 and 12.
-fn onward_of(tape: &[u8], set: Settings, first: usize, frame: Frame, left: u32, b: Block) -> Onward
-    requires { ⌜ (first ≤ length (now tape)) × (frame .program .line ≤ length (now tape)) ⌝ }
-    ensures { λ r. ⌜ r ≡ onwardBy (now (tape .entry)) set first frame left b ⌝ }
+fn onward_of(
+    places: &[u64],
+    count: usize,
+    set: Settings,
+    frame: Frame,
+    left: u32,
+    b: Block,
+) -> Onward
+    requires { ⌜ (count ≤ length (now places)) × Row (take count (now places)) ⌝ }
+    ensures { λ r. ⌜ r ≡ onwardIn (take count (now (places .entry))) set frame left b ⌝ }
 {
     if left == 0 {
         return Onward::Stop(alarms::TOO_MANY_BEGUN, frame.at);
     }
     let next = state::request::request_of(b);
-    ahead::look_up(tape, set, first, frame, next)
+    ahead::look_up(places, count, set, frame, next)
 }
 
 // Does the block of a line that was found, which is the one at the frame's place.
@@ -70,13 +78,15 @@ fn do_block(
     tape: &[u8],
     table: &[i32],
     set: Settings,
+    places: &[u64],
+    count: usize,
     first: usize,
     buf: &mut [u8],
     frame: Frame,
     line: BlockAt,
     run: Run,
 ) -> StepDone
-    requires { ⌜ Needs (taskOf (now tape) (now table) set first (length (now buf))) (length (now buf)) frame run × Stands (now tape) frame line ⌝ }
+    requires { ⌜ Needs (taskOf (now tape) (now table) set first (length (now buf))) (length (now buf)) (now places) count frame run × Stands (now tape) frame line ⌝ }
     ensures { λ r. ⌜ BlockMeets (taskOf (now (tape .entry)) (now (table .entry)) set first (length (now (buf .entry)))) (now (buf .entry)) frame run r (now (buf .exit)) ⌝ }
 {
     let at = frame.at;
@@ -84,7 +94,7 @@ fn do_block(
     let after = line.after;
     let left = run.blocks_left;
     let b = words_of(&tape[at..stop], line.behind);
-    let onward = onward_of(tape, set, first, frame, left, b);
+    let onward = onward_of(places, count, set, frame, left, b);
     let asked = alarm_by(onward);
     if asked != 0 {
         return StepDone {
@@ -137,17 +147,19 @@ fn pass_block(run: Run, after: usize) -> StepDone
     }
 }
 
-// Takes a step from the line at the frame's place on.
+// Takes a step from the line at the frame's place on. The tape's first line, from which the definitions walk, stands at `first`; the code looks in the first `count` entries of `places`.
 pub fn take_step(
     tape: &[u8],
     table: &[i32],
     set: Settings,
+    places: &[u64],
+    count: usize,
     first: usize,
     buf: &mut [u8],
     frame: Frame,
     run: Run,
 ) -> StepDone
-    requires { ⌜ Needs (taskOf (now tape) (now table) set first (length (now buf))) (length (now buf)) frame run ⌝ }
+    requires { ⌜ Needs (taskOf (now tape) (now table) set first (length (now buf))) (length (now buf)) (now places) count frame run ⌝ }
     ensures { λ r. ⌜ StepMeets (taskOf (now (tape .entry)) (now (table .entry)) set first (length (now (buf .entry)))) (now (buf .entry)) frame run r (now (buf .exit)) ⌝ }
 {
     let from = frame.at;
@@ -169,7 +181,18 @@ pub fn take_step(
                 calls_left: frame.calls_left,
                 at: line.at,
             };
-            do_block(tape, table, set, first, buf, there, line, run)
+            do_block(
+                tape,
+                table,
+                set,
+                places,
+                count,
+                first,
+                buf,
+                there,
+                line,
+                run,
+            )
         }
     }
 }

@@ -1,5 +1,5 @@
 // What a case is run with: the numbers of the table and the settings. They stand in one array, the table's 208 first and then the settings, as 01's
-// `listmoves` has them until a line names another: `=retract 300`, `=empty 2`, `=points 1`, `=offset 3 -1500` for number 3 of the table, `=bytes 24` for the buffer's size, `=numbers 207` for a table cut short; the first two letters of a word tell it.
+// `listmoves` has them until a line names another: `=retract 300`, `=empty 2`, `=points 1`, `=offset 3 -1500` for number 3 of the table, `=bytes 24` for the buffer's size, `=numbers 207` for a table cut short, `=held 3` for the entries of the table of places; the first two letters of a word tell it.
 use numbers::Number;
 use numbers::NumberForm;
 ghost use mathlib.Core.Path.{_≡_};
@@ -42,13 +42,15 @@ const NUMBERS: usize = TABLE + settings::row::COUNT;
 
 const BYTES: usize = NUMBERS + 1;
 
+const HELD: usize = BYTES + 1;
+
 // How many numbers there are; as a place, that of none of them.
-pub const ALL: usize = BYTES + 1;
+pub const ALL: usize = HELD + 1;
 
 // As a place: the one that a second number of the line names.
 const OFFSET: usize = ALL + 1;
 
-// A table of zeros and the settings of `listmoves`, as the contract holds them to be; its buffer has room for every list.
+// A table of zeros and the settings of `listmoves`, as the contract holds them to be; its table of places is long enough for every tape, and its buffer has room for every list.
 pub fn usual() -> [i32; ALL]
     ensures { λ r. ⌜ r ≡ usual ⌝ }
 {
@@ -65,6 +67,7 @@ pub fn usual() -> [i32; ALL]
     given[EMPTY] = 1;
     given[NUMBERS] = 208;
     given[BYTES] = 64_008;
+    given[HELD] = 21_845;
     given
 }
 
@@ -89,6 +92,13 @@ pub fn bytes_of(given: &[i32; ALL]) -> usize
     at_most(whole::signed::magnitude(given[BYTES]), 65_536)
 }
 
+// How many entries the table of places has.
+pub fn held_of(given: &[i32; ALL]) -> usize
+    ensures { λ r. ⌜ r ≤ 21845 ⌝ }
+{
+    at_most(whole::signed::magnitude(given[HELD]), 21_845)
+}
+
 // The place of a number of an axis by the second letter of its word: its start, its lowest limit or its highest.
 fn axis_place(second: u8, start: usize, lowest: usize, highest: usize) -> usize {
     match second {
@@ -111,6 +121,7 @@ fn place_of(first: u8, second: u8) -> usize {
         b'p' => POINTS,
         b'n' => NUMBERS,
         b'b' => BYTES,
+        b'h' => HELD,
         b'o' => OFFSET,
         _ => ALL,
     }

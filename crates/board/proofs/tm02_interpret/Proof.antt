@@ -9,24 +9,25 @@ use Rattle.board.proofs.tm02_interpret.Tie as tie
 
 returns : tie.Need-returns
 returns c =
-    let a = c .before .before .before .before .before .args in
-    refused-here (now (a .tape)) (now (a .table)) (now (a .settings)) (now (a .buf)) (sym (c .before .before .unfit .ensures) ∙ c .before .if1 .taken) (c .packed-answer .ensures)
+    let a = c .before .before .before .before .before .before .args in
+    refused-here (now (a .tape)) (now (a .table)) (now (a .settings)) (now (a .places)) (now (a .buf)) (sym (c .before .before .unfit .ensures) ∙ c .before .if1 .taken) (c .packed-answer .ensures)
 
 settings-of-requires : tie.Need-settings-of-requires
-settings-of-requires c κs = all-there (now (c .before .before .before .before .args .settings)) (sym (c .before .unfit .ensures) ∙ c .if1 .left)
+settings-of-requires c κs = all-there (now (c .before .before .before .before .before .args .settings)) (sym (c .before .unfit .ensures) ∙ c .if1 .left)
 
 packed-answer-requires-2 : tie.Need-packed-answer-requires-2
 packed-answer-requires-2 c κs =
-    let a = c .before .before .before .before .before .before .before .before .before .args in
-    answer-fits (now (a .tape)) (now (a .table)) (now (a .settings)) (now (a .buf)) _ (c .before .before .interpret .ensures .0)
+    let a = c .before .before .before .before .before .before .before .before .before .before .before .before .before .args in
+    answer-fits (now (a .tape)) (now (a .table)) (now (a .settings)) (now (a .places)) (now (a .buf)) _ (c .before .before .before .before .interpret .ensures .0)
 
 returns-2 : tie.Need-returns-2
 returns-2 c =
-    let a = c .before .before .before .before .before .before .before .before .before .before .args in
-    let e = c .before .before .before .before .before .before in
-    let run = c .before .before .before .interpret in
-    ran-here (now (a .tape)) (now (a .table)) (now (a .settings)) (now (a .buf)) (sym (e .before .unfit .ensures) ∙ e .if1 .left)
-    (c .before .before .before .before .before .settings-of .ensures) (run .ensures .0) (c .packed-answer2 .ensures) (run .ensures .1)
+    let run = c .before .before .before .before .before .interpret in
+    let o = c .before .before .before .before .before .before .before .before in
+    let e = o .before in
+    let a = c .before .before .before .before .before .before .before .before .before .before .before .before .before .before .args in
+    ran-here (now (a .tape)) (now (a .table)) (now (a .settings)) (now (a .places)) (now (a .buf)) (sym (e .before .unfit .ensures) ∙ e .if1 .left)
+    (o .settings-of .ensures) (run .ensures .0) (c .packed-answer2 .ensures) (run .ensures .1 .0) (run .ensures .1 .1)
 
 pub tm02-interpret-spec : {M : Type 1} → statement M
 tm02-interpret-spec =
@@ -38,5 +39,6 @@ tm02-interpret-spec =
     settings-of-requires
     (λ c κs. search needs)
     packed-answer-requires-2
+    (λ c. search needs)
     (λ c. search needs)
     returns-2)

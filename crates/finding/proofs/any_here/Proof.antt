@@ -1,7 +1,6 @@
 -- `finding::any_here` meets its contract.
 use mathlib.Core.Path.{sym, ap}
-use Rattle.finding.specs.Finding.{hereOf}
-use Rattle.finding.specs.declared.Sought.the-variants.{AnyBlock}
+use Rattle.finding.specs.Finding.{AnyBlock, hereOf}
 use borrow.Author.Needs.{needs}
 use Rattle.finding.proofs.any_here.Statement.{statement}
 use Rattle.finding.proofs.any_here.Tie as tie

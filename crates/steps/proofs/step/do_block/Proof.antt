@@ -2,7 +2,7 @@
 use mathlib.Core.Path.{_≡_, refl, sym, ap, _∙_, subst}
 use Prim.Native.Nat.{_-_}
 use native.Mathlib.Omega.{arith}
-use lib.ListN.{length}
+use lib.ListN.{length, take}
 use denote.Ref.{now}
 use borrow.Author.Needs.{needs}
 use Rattle.whole.specs.Bytes.{laid}
@@ -11,7 +11,7 @@ use Rattle.block.specs.Worded.{Worded}
 use Rattle.block.specs.declared.words.Block.{Block}
 use Rattle.machine.specs.Blocks.{blockRecords, outcomeOf}
 use Rattle.steps.specs.Steps.{Task, taskOf, blockOn, onwardBy, onwardOf, alarmBy}
-use Rattle.steps.proofs.Stepping.{words-are, same-place, same-after, behind-number, worded-in, some-left, refused-asked, refused-block, went}
+use Rattle.steps.proofs.Stepping.{words-are, same-place, same-after, behind-number, worded-in, onward-same, some-left, refused-asked, refused-block, went}
 use Rattle.steps.proofs.step.do_block.Statement.{statement}
 use Rattle.steps.proofs.step.do_block.Tie as tie
 
@@ -21,7 +21,7 @@ task s = let a = s .args in taskOf (now (a .tape)) (now (a .table)) (a .set) (a 
 
 -- where it began
 abbrev begun : tie.After-words-of → tie.Start
-begun o = o .before .before .before .before
+begun o = o .before .before .before .before .before
 
 -- the block's words, as they are defined
 words : (o : tie.After-words-of) → let a = begun o .args in o .words-of .result ≡ blockOn (now (a .tape)) (a .frame .at)
@@ -30,8 +30,12 @@ words o = let s = begun o in words-are (now (s .args .tape)) (s .args .frame) (s
 -- what the block asks of the runner
 asked : (c : tie.After-onward-of) → let s = begun (c .before) in c .onward-of .result ≡ onwardOf (task s) (s .args .frame) (s .args .run)
 asked c =
-    let a = begun (c .before) .args in
-    c .onward-of .ensures ∙ ap (onwardBy (now (a .tape)) (a .set) (a .first) (a .frame) (a .run .«blocks_left»)) (words (c .before))
+    let s = begun (c .before) in
+    let a = s .args in
+    let n = s .pre .0 in
+    c .onward-of .ensures
+    ∙ onward-same (take (a .count) (now (a .places))) (now (a .tape)) (a .first) (n .ready .finds) (a .set) (a .frame) (n .there) (a .run .«blocks_left») (c .before .words-of .result)
+    ∙ ap (onwardBy (now (a .tape)) (a .set) (a .first) (a .frame) (a .run .«blocks_left»)) (words (c .before))
 
 -- and that this is no alarm
 fine : (c : tie.Else1) → let s = begun (c .before .before .before) in alarmBy (onwardOf (task s) (s .args .frame) (s .args .run)) ≡ 0
@@ -63,16 +67,19 @@ written c =
     ∙ ap (λ (b : Block). laid (now (a .buf)) (recordStart (a .run .count)) (rowBytes (blockRecords (t .table) (t .settings) (a .run .state) b (t .room - a .run .count)))) (words o)
 
 sub-words-of : tie.Need-sub-words-of
-sub-words-of c = let s = c .before .before .pre .1 in omega (arith, same-place _ _ s, s .known .begins)
+sub-words-of c = let s = c .before .before .before .pre .1 in omega (arith, same-place _ _ s, s .known .begins)
 
 part-words-of-start : tie.Need-part-words-of-start
-part-words-of-start c = let s = c .before .before .pre .1 in omega (arith, same-place _ _ s, s .known .begins)
+part-words-of-start c = let s = c .before .before .before .pre .1 in omega (arith, same-place _ _ s, s .known .begins)
 
 part-words-of-end : tie.Need-part-words-of-end
-part-words-of-end c = let s = c .before .before .pre .1 in omega (arith, same-place _ _ s, s .known .begins, s .known .text)
+part-words-of-end c = let s = c .before .before .before .pre .1 in omega (arith, same-place _ _ s, s .known .begins, s .known .text)
 
 words-of-requires : tie.Need-words-of-requires
-words-of-requires c κs = let s = c .before .before .before in behind-number (now (s .args .tape)) (s .args .frame) (s .pre .1)
+words-of-requires c κs = let s = c .before .before .before .before in behind-number (now (s .args .tape)) (s .args .frame) (s .pre .1)
+
+onward-of-requires : tie.Need-onward-of-requires
+onward-of-requires c κs = let n = begun c .pre .0 .ready in (n .filled, n .finds .ascends)
 
 returns : tie.Need-returns
 returns c =
@@ -124,7 +131,7 @@ do-block-spec =
     part-words-of-start
     part-words-of-end
     words-of-requires
-    (λ c κs. search needs)
+    onward-of-requires
     (λ c κs. search needs)
     returns
     run-block-requires

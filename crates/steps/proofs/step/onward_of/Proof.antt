@@ -2,12 +2,12 @@
 use mathlib.Core.Path.{_∙_}
 use borrow.Author.Needs.{needs}
 use borrow.Author.Tests.{eq-eqb, ne-eqb}
-use Rattle.steps.specs.Steps.{onwardBy}
+use Rattle.steps.specs.Meets.{onwardIn}
 use Rattle.steps.proofs.step.onward_of.Statement.{statement}
 use Rattle.steps.proofs.step.onward_of.Tie as tie
 
 returns : tie.Need-returns
-unfolding onwardBy
+unfolding onwardIn
 returns c = rw (eq-eqb _ _ (c .if1 .taken))
 
 request-of-requires : tie.Need-request-of-requires
@@ -17,7 +17,7 @@ look-up-requires : tie.Need-look-up-requires
 look-up-requires c κs = search needs
 
 returns-2 : tie.Need-returns-2
-unfolding onwardBy
+unfolding onwardIn
 returns-2 c = c .look-up .ensures ∙ rw (c .before .request-of .ensures, ne-eqb _ _ (c .before .before .if1 .left))
 
 pub onward-of-spec : {M : Type 1} → statement M

@@ -28,7 +28,7 @@ task s = let a = s .args in taskOf (now (a .tape)) (now (a .table)) (a .set) (a 
 -- the block line that was found
 module _ (x : tie.After-next) where
   abbrev begun : tie.Start
-  begun = x .before .before .before .before .before .before
+  begun = x .before .before .before .before .before .before .before
 
   abbrev line : BlockAt
   line = x .next .given .0 .0
@@ -42,7 +42,7 @@ module _ (x : tie.After-next) where
   stands : Stands (now (begun .args .tape)) (onto (begun .args .frame) (line .at)) line
   stands = record { is = here .0; known = known }
 
-  fits : Needs (task begun) (length (now (begun .args .buf))) (onto (begun .args .frame) (line .at)) (begun .args .run)
+  fits : Needs (task begun) (length (now (begun .args .buf))) (now (begun .args .places)) (begun .args .count) (onto (begun .args .frame) (line .at)) (begun .args .run)
   fits = found-needs (begun .pre) (known .on)
 
 add-bare : tie.Need-add-bare
@@ -81,7 +81,7 @@ do-block-requires c κs = let x = c .before .before .before .before .before .bef
 returns-2 : tie.Need-returns-2
 returns-2 c =
     let n = c .before .before in
-    let s = n .before .before .before .before in
+    let s = n .before .before .before .before .before in
     let a = s .args in
     step-ended (task s) (now (a .buf)) (a .frame) (a .run) (s .pre)
     (found-none (now (a .tape)) (firstBlock (lines (now (a .tape)) (a .frame .at))) (n .next-block .ensures .0) (c .enum-told .given .1))
