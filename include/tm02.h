@@ -112,7 +112,7 @@ enum {
    pointer is null, not even where its length is 0; each points to as many elements as its length says; table and settings are aligned as int32_t and places as uint64_t; places and the buffer overlap none of the
    others; and nothing else writes to any of them, or reads places or the buffer, during the call.
 
-   The call takes no heap and has no data of its own. It took 13,271 bytes of stack ten calls deep, measured with the archive of this version: give it 32 KiB. A run ends after 20,000
+   The call takes no heap and has no data of its own. It took 13,440 bytes of stack ten calls deep, measured with the archive of this version: give it 32 KiB. A run ends after 20,000
    blocks at the latest: do not call it from an interrupt. */
 uint64_t tm02_interpret(const uint8_t *tape, size_t tape_len, const int32_t *table, size_t table_len,
                         const int32_t *settings, size_t settings_len, uint64_t *places, size_t places_len,
