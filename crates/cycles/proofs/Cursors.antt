@@ -4,9 +4,9 @@ use mathlib.Core.Path.{_≡_}
 use mathlib.Core.Bool.{true}
 use mathlib.Core.List.{[]}
 use Rattle.turning.proofs.Cursors as turn
-use Rattle.threading.proofs.Cursors as thread
-use Rattle.grooving.proofs.Cursors as groove
-use Rattle.drilling.proofs.Cursors as drill
+use Rattle.threads.proofs.Cursors as thread
+use Rattle.plunges.proofs.Cursors as groove
+use Rattle.bores.proofs.Cursors as drill
 use Rattle.cycles.specs.declared.cursor.Cursor.{Cursor}
 use Rattle.cycles.specs.declared.cursor.Cursor.the-variants.{Turning, Threading, Grooving, Drilling}
 use Rattle.cycles.specs.Cursor.{restOf, over}

@@ -4,9 +4,9 @@ use mathlib.Core.Bool.{Bool}
 use mathlib.Core.List.{List, _∷_}
 use Rattle.moves.specs.declared.record.Record.{Record}
 use Rattle.turning.specs.Cursor as turn
-use Rattle.threading.specs.Cursor as thread
-use Rattle.grooving.specs.Cursor as groove
-use Rattle.drilling.specs.Cursor as drill
+use Rattle.threads.specs.Cursor as thread
+use Rattle.plunges.specs.Cursor as groove
+use Rattle.bores.specs.Cursor as drill
 use Rattle.cycles.specs.declared.cursor.Cursor.{Cursor}
 use Rattle.cycles.specs.declared.cursor.Cursor.the-variants.{Turning, Threading, Grooving, Drilling}
 

@@ -10,9 +10,9 @@ ghost use Rattle.cycles.specs.Cursor.{restOf, over, Sound, Makes};
 
 pub enum Cursor {
     Turning(turning::cursor::Cursor),
-    Threading(threading::cursor::Cursor),
-    Grooving(grooving::cursor::Cursor),
-    Drilling(drilling::cursor::Cursor),
+    Threading(threads::cursor::Cursor),
+    Grooving(plunges::cursor::Cursor),
+    Drilling(bores::cursor::Cursor),
 }
 
 pub struct Handed {
@@ -27,9 +27,9 @@ pub fn open(c: Cycle) -> Cursor
 {
     match c {
         Cycle::Turning(t) => Cursor::Turning(turning::cursor::open(t)),
-        Cycle::Threading(t) => Cursor::Threading(threading::cursor::open(t)),
-        Cycle::Grooving(g) => Cursor::Grooving(grooving::cursor::open(g)),
-        Cycle::Drilling(b) => Cursor::Drilling(drilling::cursor::open(b)),
+        Cycle::Threading(t) => Cursor::Threading(threads::cursor::open(t)),
+        Cycle::Grooving(g) => Cursor::Grooving(plunges::cursor::open(g)),
+        Cycle::Drilling(b) => Cursor::Drilling(bores::cursor::open(b)),
     }
 }
 
@@ -39,9 +39,9 @@ pub fn is_over(c: Cursor) -> bool
 {
     match c {
         Cursor::Turning(t) => turning::cursor::is_over(t),
-        Cursor::Threading(t) => threading::cursor::is_over(t),
-        Cursor::Grooving(g) => grooving::cursor::is_over(g),
-        Cursor::Drilling(b) => drilling::cursor::is_over(b),
+        Cursor::Threading(t) => threads::cursor::is_over(t),
+        Cursor::Grooving(g) => plunges::cursor::is_over(g),
+        Cursor::Drilling(b) => bores::cursor::is_over(b),
     }
 }
 
@@ -61,7 +61,7 @@ pub fn next(c: Cursor) -> Handed
             }
         }
         Cursor::Threading(t) => {
-            let handed = threading::cursor::next(t);
+            let handed = threads::cursor::next(t);
             let record = handed.record;
             let behind = handed.rest;
             Handed {
@@ -70,7 +70,7 @@ pub fn next(c: Cursor) -> Handed
             }
         }
         Cursor::Grooving(g) => {
-            let handed = grooving::cursor::next(g);
+            let handed = plunges::cursor::next(g);
             let record = handed.record;
             let behind = handed.rest;
             Handed {
@@ -79,7 +79,7 @@ pub fn next(c: Cursor) -> Handed
             }
         }
         Cursor::Drilling(b) => {
-            let handed = drilling::cursor::next(b);
+            let handed = bores::cursor::next(b);
             let record = handed.record;
             let behind = handed.rest;
             Handed {

@@ -6,5 +6,4 @@ pub mod Asked
 pub mod Each
 pub mod Counts
 pub mod Reach
-pub mod Cursors
 pub mod Examples

@@ -2,4 +2,3 @@
 pub mod Bites
 pub mod Falls
 pub mod Drilling
-pub mod Cursor

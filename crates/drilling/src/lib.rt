@@ -2,4 +2,3 @@
 // Both go in along Z by the same bites; they differ in what lies between two of them.
 pub mod bites;
 pub mod bore;
-pub mod cursor;

@@ -5,4 +5,3 @@ pub mod Rows
 pub mod Each
 pub mod Counts
 pub mod Reach
-pub mod Cursors

@@ -4,6 +4,5 @@ pub mod Asked
 pub mod Lines
 pub mod Reach
 pub mod Counts
-pub mod Cursors
 pub mod Threaded
 pub mod RuledOut

@@ -2,4 +2,3 @@
 pub mod Bits
 pub mod Threading
 pub mod Threaded
-pub mod Cursor

@@ -1,0 +1,2 @@
+-- The laws of a bore that is opened.
+pub mod Cursors

@@ -1,0 +1,2 @@
+-- The laws of a groove that is opened.
+pub mod Cursors

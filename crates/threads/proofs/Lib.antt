@@ -1,0 +1,2 @@
+-- The laws of a thread that is opened.
+pub mod Cursors
