@@ -4,3 +4,4 @@ pub mod Reaching
 pub mod Places
 pub mod Fitting
 pub mod Every
+pub mod Moving

@@ -9,6 +9,7 @@ use mir.Syntax.{w32}
 use mir.Val.{SFits}
 use Rattle.moves.specs.Form.{Fitting}
 use Rattle.moves.specs.Kinds.{rapid, feed, thread}
+use Rattle.moves.proofs.Last.{Moves}
 use Rattle.moves.specs.declared.record.Record.{Record}
 use Rattle.codes.specs.declared.meaning.Motion.the-variants as motion
 use Rattle.block.specs.declared.words.Block.{Block}
@@ -49,12 +50,12 @@ pub record Sends (s : Sending) : Type 0 where
 abbrev pub At : Record → Sending → Type 0
 At r s = (r .x ≡ s .x) × (r .z ≡ s .z)
 
--- a dwell is there, and a cycle starts there
+-- a dwell is there, a cycle starts there, and a straight move leaves the axes where it goes
 abbrev pub Starts : Deed → Sending → Type 0
 Starts Nothing s = Unit {0}
 Starts Nowhere s = Unit {0}
 Starts (Dwell r) s = At r s
-Starts (Straight m) s = Unit {0}
+Starts (Straight m) s = Moves (m .goes)
 Starts (Cycle c) s = At (home c) s
 
 -- what holds of both holds of what a test picks
@@ -89,15 +90,15 @@ module _ (b : Block) (s : Sending) where
   unfolding boreOf
   bore-starts full = (refl, refl)
 
-  straight-starts : (g : Bool) (n : ℕ) (r : Record) → Starts (straightIf (hasPath b) g n r) s
+  straight-starts : (g : Bool) (n : ℕ) (r : Record) → Moves r → Starts (straightIf (hasPath b) g n r) s
   unfolding straightIf
-  straight-starts g n r = either-of (λ (d : Deed). Starts d s) (hasPath b) _ _ tt tt
+  straight-starts g n r h = either-of (λ (d : Deed). Starts d s) (hasPath b) _ _ h tt
 
   pub starts : (k : Kept) → Starts (deedOf k b s) s
   unfolding deedOf moveOf
-  starts (kept.Of motion.Rapid) = straight-starts true 0 (rapid (s .«x_target») (s .«z_target»))
-  starts (kept.Of motion.Feed) = straight-starts false 1 (feed (s .«x_target») (s .«z_target») (s .f) (s .g95))
-  starts (kept.Of motion.Thread) = straight-starts false 10 (thread (s .«x_target») (s .«z_target») (s .f))
+  starts (kept.Of motion.Rapid) = straight-starts true 0 (rapid (s .«x_target») (s .«z_target»)) refl
+  starts (kept.Of motion.Feed) = straight-starts false 1 (feed (s .«x_target») (s .«z_target») (s .f) (s .g95)) refl
+  starts (kept.Of motion.Thread) = straight-starts false 10 (thread (s .«x_target») (s .«z_target») (s .f)) refl
   starts (kept.Of motion.Dwell) = (refl, refl)
   starts (kept.Of motion.Turning) = turning-starts
   starts (kept.Of motion.Threading) = thread-starts

@@ -39,7 +39,7 @@ use Rattle.verdicts.specs.Verdicts.{alarmIn}
 use Rattle.machine.specs.Blocks.{doneRecords}
 use Rattle.demands.proofs.Fits.{fitting-append, block-fitting, feed-after}
 use Rattle.moves.specs.Last.{lastOf}
-use Rattle.cycles.proofs.Homes.{last-append}
+use Rattle.moves.proofs.Last.{last-append}
 use Rattle.demands.proofs.Standing.{block-stands}
 use Rattle.demands.proofs.Linked.{free-own, program-leads}
 use Rattle.demands.proofs.Results.{every-result}

@@ -11,7 +11,8 @@ use Rattle.state.specs.Modal.{blockMotion, settled}
 use Rattle.block.specs.declared.words.Block.{Block}
 use Rattle.cycles.specs.Known.{home}
 use Rattle.moves.specs.Last.{lastOf}
-use Rattle.cycles.proofs.Homes.{last-append, goes-home}
+use Rattle.moves.proofs.Last.{after-move, after-here, last-append}
+use Rattle.cycles.proofs.Homes.{goes-home}
 use Rattle.state.specs.declared.modal.State.{State}
 use Rattle.asking.specs.Judge.{doing}
 use Rattle.deeds.specs.declared.deed.Deed.{Deed}
@@ -27,7 +28,7 @@ use Rattle.settings.specs.declared.control.Settings.{Settings}
 module _ (f : Record → ℤ) where
   one-last : (t : Bool) (r : Record) (x : ℤ) → f r ≡ x → lastOf f x (oneIf t r) ≡ x
   unfolding oneIf
-  one-last true r x h = h
+  one-last true r x h = after-here f r x h
   one-last false r x h = refl
 
   two-last : (t u : Bool) (q r : Record) (x : ℤ) → f q ≡ x → f r ≡ x → lastOf f x (oneIf t q ++ oneIf u r) ≡ x
@@ -50,8 +51,8 @@ module _ (second : Bool) where
   unfolding doing done moved
   doing-last u deed.Nothing s x z h = refl
   doing-last u deed.Nowhere s x z h = refl
-  doing-last u (deed.Dwell r) s x z h = on-one r u (h .0 ∙ x, h .1 ∙ z)
-  doing-last u (deed.Straight m) s x z h = refl
+  doing-last u (deed.Dwell r) s x z h = after-here on r (stands u) (on-one r u (h .0 ∙ x, h .1 ∙ z))
+  doing-last u (deed.Straight m) s x z h = after-move on (m .goes) (stands u) h
   doing-last u (deed.Cycle c) s x z h = goes-home on c (stands u) (on-one (home c) u (h .0 ∙ x, h .1 ∙ z))
 
   -- the last record of a block stands where the state after it does

@@ -3,3 +3,4 @@ pub mod Writing
 pub mod OneReading
 pub mod Rows
 pub mod Room
+pub mod Last

@@ -1,7 +1,8 @@
 -- The kinds of records. 01: "Kinds: 1 rapid (0), 2 feed (F; flag 1 for G95), 3 thread (pitch), 4 dwell (tenths of a second), 5 tool (T), 6 M (number),
 -- 7 speed (S; flag 2 for G96). Other flags are 0."
-use mathlib.Core.Bool.{Bool, cond}
+use mathlib.Core.Bool.{Bool, cond, _||_}
 use Prim.Native.Nat.{ℕ}
+use lib.Dec.{eqb}
 use lib.IntN.{ℤ}
 use Rattle.moves.specs.declared.record.Record.{Record}
 
@@ -35,6 +36,13 @@ counterclockwiseKind = 9
 
 abbrev pub centreKind : ℕ
 centreKind = 10
+
+-- an arc, and the centre behind it
+abbrev pub isArc : ℕ → Bool
+isArc kind = eqb kind clockwiseKind || eqb kind counterclockwiseKind
+
+abbrev pub isCentre : ℕ → Bool
+isCentre kind = eqb kind centreKind
 
 -- "flag 1 for G95", "flag 2 for G96"
 abbrev pub flagG95 : ℕ
@@ -72,3 +80,11 @@ miscellaneous x z m = plain miscellaneousKind x z m
 -- the last: whether G96 is in force
 abbrev pub speed : ℤ → ℤ → ℕ → Bool → Record
 speed x z s g96 = flagged speedKind (cond g96 flagG96 0) x z s
+
+-- 02: "kinds 8 and 9 are as kind 2 with the end point". The first: whether it is clockwise; the last: whether G95 is in force
+abbrev pub arc : Bool → ℤ → ℤ → ℕ → Bool → Record
+arc clockwise x z f g95 = flagged (cond clockwise clockwiseKind counterclockwiseKind) (cond g95 flagG95 0) x z f
+
+-- "a following record, kind 10, carries the centre, value 0, and moves nothing"
+abbrev pub centre : ℤ → ℤ → Record
+centre x z = plain centreKind x z 0

@@ -2,7 +2,7 @@
 // The kinds' numbers and flags stand here, and in specs/Kinds.antt for the contracts.
 ghost use mathlib.Core.Path.{_≡_};
 ghost use mathlib.Core.Bool.{cond};
-ghost use Rattle.moves.specs.Kinds.{rapid, feed, thread, dwell, tool, miscellaneous, speed};
+ghost use Rattle.moves.specs.Kinds.{rapid, feed, thread, dwell, tool, miscellaneous, speed, arc, centre, clockwiseKind, counterclockwiseKind};
 
 pub struct Record {
     pub kind: u8,
@@ -124,6 +124,42 @@ impl Record {
             z,
             value: s,
         }
+    }
+
+    pub fn arc(clockwise: bool, x: i32, z: i32, f: u32, g95: bool) -> Record
+        ensures { λ r. ⌜ r ≡ arc clockwise x z f g95 ⌝ }
+    {
+        let kind = arc_kind(clockwise);
+        let flags = flag_if(g95, Record::FLAG_G95);
+        Record {
+            kind,
+            flags,
+            x,
+            z,
+            value: f,
+        }
+    }
+
+    pub fn centre(x: i32, z: i32) -> Record
+        ensures { λ r. ⌜ r ≡ centre x z ⌝ }
+    {
+        Record {
+            kind: Record::CENTRE,
+            flags: 0,
+            x,
+            z,
+            value: 0,
+        }
+    }
+}
+
+fn arc_kind(clockwise: bool) -> u8
+    ensures { λ r. ⌜ r ≡ cond clockwise clockwiseKind counterclockwiseKind ⌝ }
+{
+    if clockwise {
+        Record::CLOCKWISE
+    } else {
+        Record::COUNTERCLOCKWISE
     }
 }
 

@@ -7,9 +7,9 @@ use Prim.Native.Nat.{ℕ}
 use lib.IntN.{ℤ, _+ℤ_}
 use Rattle.whole.specs.Signed.{along}
 use Rattle.whole.specs.declared.signed.Side.{Side}
-use Rattle.moves.specs.Kinds.{rapid, feed, thread, dwell, tool, miscellaneous, speed}
+use Rattle.moves.specs.Kinds.{isArc, isCentre, rapid, feed, thread, dwell, tool, miscellaneous, speed}
 use Rattle.moves.specs.declared.record.Record.{Record}
-use Rattle.readback.specs.Right.{isKnown, isArc, isCentre, flagOf, flagsRight}
+use Rattle.readback.specs.Right.{isKnown, flagOf, flagsRight}
 use Rattle.codes.specs.declared.meaning.Motion.the-variants as motion
 use Rattle.acts.specs.declared.acting.Kept.{Kept}
 use Rattle.acts.specs.declared.acting.Kept.the-variants as kept

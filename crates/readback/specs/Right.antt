@@ -10,18 +10,12 @@ use lib.ListN.{length}
 use lib.Signed.{leZ}
 use Rattle.whole.specs.Position.{tableLeast, tableGreatest, inTable}
 use Rattle.moves.specs.Form.{recordLimit, AllFitting}
-use Rattle.moves.specs.Kinds.{rapidKind, feedKind, speedKind, clockwiseKind, counterclockwiseKind, centreKind, flagG95, flagG96}
+use Rattle.moves.specs.Kinds.{rapidKind, feedKind, speedKind, centreKind, isArc, isCentre, flagG95, flagG96}
 use Rattle.moves.specs.declared.record.Record.{Record}
 
 -- ---- "known kinds"
 abbrev pub isKnown : ℕ → Bool
 isKnown kind = leb rapidKind kind && leb kind centreKind
-
-abbrev pub isArc : ℕ → Bool
-isArc kind = eqb kind clockwiseKind || eqb kind counterclockwiseKind
-
-abbrev pub isCentre : ℕ → Bool
-isCentre kind = eqb kind centreKind
 
 -- ---- "its kind's flags": the one that a kind may have. 01: "2 feed (F; flag 1 for G95) .. 7 speed (S; flag 2 for G96). Other flags are 0."
 unfoldable pub flagOf : ℕ → ℕ

@@ -21,6 +21,7 @@ use Rattle.axes.specs.declared.axis.Axis.{Axis}
 use Rattle.axes.specs.Axis.{side}
 use Rattle.axes.specs.Goes.{rapidTo}
 use Rattle.axes.proofs.Fitting.{rapid-fitting, thread-fitting}
+use Rattle.axes.proofs.Moving.{after-rapid}
 use Rattle.depths.specs.Depths.{greatestD, depths}
 use Rattle.depths.proofs.Kept.{row-length, row-rises, few-cuts}
 use Rattle.threading.specs.declared.thread.Thread.{Thread}
@@ -94,7 +95,7 @@ module _ (f : Record → ℤ) (t : Thread) (x : ℤ) (home : f (rapidTo (t .faci
   passes-last : (ls : List ℤ) → lastOf f x (passes (passFor t) ls) ≡ x
   unfolding passes passOn
   passes-last [] = refl
-  passes-last (l ∷ ls) = ap (λ (y : ℤ). lastOf f y (passes (passFor t) ls)) home ∙ passes-last ls
+  passes-last (l ∷ ls) = ap (λ (y : ℤ). lastOf f y (passes (passFor t) ls)) (after-rapid f (t .facing) (t .infeed .start) (t .path .start) _ ∙ home) ∙ passes-last ls
 
   pub threading-last : lastOf f x (threading t) ≡ x
   unfolding threading

@@ -9,7 +9,7 @@ use denote.Ref.{now}
 use borrow.Author.Needs.{needs}
 use borrow.Author.Tests.{not-true, not-false}
 use Rattle.moves.specs.Form.{headerSize, recordSize, recordStart}
-use Rattle.readback.specs.Right.{isArc}
+use Rattle.moves.specs.Kinds.{isArc}
 use Rattle.readback.proofs.Taking.{part-is}
 use Rattle.readback.proofs.Judges.{asked, first, askedFrom, all-asked, first-wrong, first-right, none-left}
 use Rattle.readback.proofs.judging.row_right.Statement.{statement}

@@ -3,8 +3,7 @@ use mathlib.Core.Path.{_≡_, ap}
 use mathlib.Core.Bool.{Bool, _||_}
 use lib.Dec.{eqb}
 use borrow.Author.Needs.{needs}
-use Rattle.moves.specs.Kinds.{feedKind}
-use Rattle.readback.specs.Right.{isArc}
+use Rattle.moves.specs.Kinds.{feedKind, isArc}
 use Rattle.readback.proofs.Judges.{flag-first, flag-second, no-flag}
 use Rattle.readback.proofs.right.flag_of.Statement.{statement}
 use Rattle.readback.proofs.right.flag_of.Tie as tie
