@@ -1,6 +1,6 @@
 -- The kinds of records. 01: "Kinds: 1 rapid (0), 2 feed (F; flag 1 for G95), 3 thread (pitch), 4 dwell (tenths of a second), 5 tool (T), 6 M (number),
 -- 7 speed (S; flag 2 for G96). Other flags are 0."
-use mathlib.Core.Bool.{Bool, cond, _||_}
+use mathlib.Core.Bool.{Bool, cond, not, _||_}
 use Prim.Native.Nat.{ℕ}
 use lib.Dec.{eqb}
 use lib.IntN.{ℤ}
@@ -43,6 +43,10 @@ isArc kind = eqb kind clockwiseKind || eqb kind counterclockwiseKind
 
 abbrev pub isCentre : ℕ → Bool
 isCentre kind = eqb kind centreKind
+
+-- 02: "10 after each 8 or 9 and nowhere else": where the record before is an arc a centre is due, and elsewhere none
+abbrev pub inTurn : Bool → ℕ → Bool
+inTurn due kind = cond due (isCentre kind) (not (isCentre kind))
 
 -- "flag 1 for G95", "flag 2 for G96"
 abbrev pub flagG95 : ℕ

@@ -8,8 +8,8 @@ use lib.IntN.{ℤ}
 use lib.ListN.{length, take}
 use Rattle.whole.specs.Position.{inTable}
 use Rattle.moves.specs.declared.record.Record.{Record}
-use Rattle.moves.specs.Kinds.{isArc, isCentre}
-use Rattle.readback.specs.Right.{isKnown, flagsRight, placeRight, isRight, inTurn, rightFrom, rightRow, Lawful}
+use Rattle.moves.specs.Kinds.{isArc, isCentre, inTurn}
+use Rattle.readback.specs.Right.{isKnown, flagsRight, placeRight, isRight, rightFrom, rightRow, Lawful}
 use Rattle.readback.specs.Laws.{WrittenForm}
 use Rattle.readback.proofs.Laws.{written-is-read}
 use Rattle.settings.specs.Known.{InRange}

@@ -10,10 +10,10 @@ use lib.ListN.{length, getD, drop}
 use lib.Seq.{drop-drop, getD-drop}
 use borrow.Author.Tests.{ltb-false, eqb-true, not-false, lt-ltb, le-ltb, eq-eqb, ne-eqb}
 use Rattle.moves.specs.Form.{headerSize, recordSize, recordLimit, version, headerZeroAt, recordStart}
-use Rattle.moves.specs.Kinds.{feedKind, speedKind, isArc, flagG95, flagG96}
+use Rattle.moves.specs.Kinds.{feedKind, speedKind, isArc, inTurn, flagG95, flagG96}
 use Rattle.moves.specs.Reading.{versionIn, recordIn, rowIn, countIn, listIn}
 use Rattle.readback.specs.Refusals.{badMark, badVersion, badLength, badRecord}
-use Rattle.readback.specs.Right.{flagOf, isRight, inTurn, rightFrom}
+use Rattle.readback.specs.Right.{flagOf, isRight, rightFrom}
 use Rattle.readback.specs.Lists.{markDiffers, markWrong, versionWrong, lengthWrong, spareZero, sparesZero, recordsWrong, judged, recordAt}
 use Rattle.readback.specs.declared.judging.Judged.the-variants.{Good, Refused}
 

@@ -10,7 +10,7 @@ use lib.ListN.{length}
 use lib.Signed.{leZ}
 use Rattle.whole.specs.Position.{tableLeast, tableGreatest, inTable}
 use Rattle.moves.specs.Form.{recordLimit, AllFitting}
-use Rattle.moves.specs.Kinds.{rapidKind, feedKind, speedKind, centreKind, isArc, isCentre, flagG95, flagG96}
+use Rattle.moves.specs.Kinds.{rapidKind, feedKind, speedKind, centreKind, isArc, isCentre, inTurn, flagG95, flagG96}
 use Rattle.moves.specs.declared.record.Record.{Record}
 
 -- ---- "known kinds"
@@ -35,11 +35,7 @@ placeRight kind z = cond (isCentre kind) (inThreeTables z) (inTable z)
 unfoldable pub isRight : Record → Bool
 isRight r = (isKnown (r .kind) && flagsRight (r .kind) (r .flags)) && (placeRight (r .kind) (r .x) && placeRight (r .kind) (r .z))
 
--- ---- "10 after each 8 or 9 and nowhere else": where the record before is an arc a centre is due, and elsewhere none
-abbrev pub inTurn : Bool → ℕ → Bool
-inTurn due kind = cond due (isCentre kind) (not (isCentre kind))
-
--- the records of a row, the first of which is a centre or not, as is due
+-- ---- "10 after each 8 or 9 and nowhere else": the records of a row, the first of which is a centre or not, as is due
 unfoldable pub rightFrom : Bool → List Record → Bool
 rightFrom due [] = not due
 rightFrom due (r ∷ rs) = (inTurn due (r .kind) && isRight r) && rightFrom (isArc (r .kind)) rs

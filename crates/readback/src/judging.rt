@@ -5,7 +5,8 @@ ghost use Prim.Native.Nat.{_+_, _<_, _≤_};
 ghost use lib.ListN.{length, drop};
 ghost use Rattle.moves.specs.Form.{headerSize, recordSize, recordStart};
 ghost use Rattle.moves.specs.Reading.{numberAt, recordIn, rowIn, countIn};
-ghost use Rattle.readback.specs.Right.{inTurn, isRight, rightRow};
+ghost use Rattle.moves.specs.Kinds.{inTurn};
+ghost use Rattle.readback.specs.Right.{isRight, rightRow};
 ghost use Rattle.readback.specs.Lists.{markWrong, lengthWrong, spareZero, sparesZero, judged};
 
 pub enum Judged {

@@ -4,8 +4,8 @@ use moves::record::Record;
 use whole::position::Position;
 ghost use mathlib.Core.Path.{_≡_};
 ghost use mathlib.Core.Bool.{_&&_};
-ghost use Rattle.moves.specs.Kinds.{isArc};
-ghost use Rattle.readback.specs.Right.{flagOf, placeRight, isRight, inTurn};
+ghost use Rattle.moves.specs.Kinds.{isArc, inTurn};
+ghost use Rattle.readback.specs.Right.{flagOf, placeRight, isRight};
 
 // A centre lies within three times the table's range.
 pub const CENTRE_LEAST: i32 = -29_999_997;

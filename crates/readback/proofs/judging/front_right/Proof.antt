@@ -9,7 +9,8 @@ use borrow.Author.Needs.{needs}
 use Rattle.moves.specs.Form.{zerosAt}
 use Rattle.moves.specs.Reading.{recordIn}
 use Rattle.moves.specs.declared.record.Record.{Record}
-use Rattle.readback.specs.Right.{isRight, inTurn}
+use Rattle.moves.specs.Kinds.{inTurn}
+use Rattle.readback.specs.Right.{isRight}
 use Rattle.readback.proofs.Judges.{some-not, none-not}
 use Rattle.readback.proofs.judging.front_right.Statement.{statement}
 use Rattle.readback.proofs.judging.front_right.Tie as tie

@@ -2,7 +2,7 @@
 use mathlib.Core.Path.{sym}
 use mathlib.Core.Bool.{_&&_}
 use borrow.Author.Needs.{needs}
-use Rattle.readback.specs.Right.{inTurn}
+use Rattle.moves.specs.Kinds.{inTurn}
 use Rattle.readback.proofs.right.is_right_after.Statement.{statement}
 use Rattle.readback.proofs.right.is_right_after.Tie as tie
 

@@ -1,0 +1,5 @@
+-- The definitions that the contracts of this crate cite, and those of the crates built on it.
+pub mod Arcs
+pub mod Points
+pub mod Rows
+pub mod Known
