@@ -66,9 +66,9 @@ enum {
     TM02_TOOL = 5,          /* T */
     TM02_MISCELLANEOUS = 6, /* the number of the M word */
     TM02_SPEED = 7,         /* S */
-    TM02_CLOCKWISE = 8,     /* an arc, G02: F. No run writes 8 to 10 yet; the reader takes them. */
-    TM02_COUNTERCLOCKWISE = 9, /* an arc, G03: F */
-    TM02_CENTRE = 10        /* 0; the position is the centre of the arc before it, and nothing moves */
+    TM02_CLOCKWISE = 8,     /* an arc, G02: F. Its end is the position, and the next record is its centre; it starts where the records before it leave the axes. */
+    TM02_COUNTERCLOCKWISE = 9, /* an arc, G03: F. Clockwise and counterclockwise are seen with Z to the right and X up. An end equal to the start is a full circle. */
+    TM02_CENTRE = 10        /* 0; the position is the centre of the arc before it, within three times the table's range, and nothing moves */
 };
 
 /* The flags: of a feed or an arc under G95, of a speed under G96. */

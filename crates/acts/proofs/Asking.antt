@@ -34,6 +34,8 @@ motion-needs : (m : Motion) → standsWith m .needs ≤ none
 unfolding standsWith standsFreely
 motion-needs motion.Rapid = omega arith
 motion-needs motion.Feed = omega arith
+motion-needs motion.Clockwise = omega arith
+motion-needs motion.Counterclockwise = omega arith
 motion-needs motion.Thread = omega arith
 motion-needs motion.Dwell = omega arith
 motion-needs motion.Turning = omega arith
@@ -60,6 +62,8 @@ motion-bits : (m : Motion) → standsWith m .bits ≤ none
 unfolding standsWith standsFreely
 motion-bits motion.Rapid = omega arith
 motion-bits motion.Feed = omega arith
+motion-bits motion.Clockwise = omega arith
+motion-bits motion.Counterclockwise = omega arith
 motion-bits motion.Thread = omega arith
 motion-bits motion.Dwell = omega arith
 motion-bits motion.Turning = omega arith

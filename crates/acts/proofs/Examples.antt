@@ -10,8 +10,8 @@ use Rattle.codes.specs.declared.meaning.Code.the-variants.{Of, Unknown}
 use Rattle.codes.specs.declared.meaning.Meaning.the-variants as means
 use Rattle.codes.specs.declared.meaning.Motion.the-variants as motion
 use Rattle.codes.specs.Codes.{gCode, mCode}
-use Rattle.acts.specs.Acting.{keep, shiftBy, cuttingBy, revolutionBy, endsBy, returnsBy}
-use Rattle.acts.specs.Stands.{standsFreely, standsWith, isTaken}
+use Rattle.acts.specs.Acting.{keep, motionBy, shiftBy, cuttingBy, revolutionBy, endsBy, returnsBy}
+use Rattle.acts.specs.Stands.{standsFreely, standsWith, standsBy, isTaken}
 
 -- "G54 and G55 call shifts 1 and 2, G57 to G59 shifts 3 to 5 (001); G53 and G56 cancel"
 pub shifts : map (λ (n : ℕ). shiftBy (gCode n) 9) (53 ∷ 54 ∷ 55 ∷ 56 ∷ 57 ∷ 58 ∷ 59 ∷ []) ≡ (0 ∷ 1 ∷ 2 ∷ 0 ∷ 3 ∷ 4 ∷ 5 ∷ [])
@@ -28,7 +28,7 @@ unfolding gCode cuttingBy
 speeds = refl
 
 -- numbers beside the ranges
-pub no-g : map gCode (2 ∷ 3 ∷ 52 ∷ 60 ∷ 83 ∷ 89 ∷ 93 ∷ 98 ∷ []) ≡ (Unknown ∷ Unknown ∷ Unknown ∷ Unknown ∷ Unknown ∷ Unknown ∷ Unknown ∷ Unknown ∷ [])
+pub no-g : map gCode (5 ∷ 32 ∷ 52 ∷ 60 ∷ 83 ∷ 89 ∷ 93 ∷ 98 ∷ []) ≡ (Unknown ∷ Unknown ∷ Unknown ∷ Unknown ∷ Unknown ∷ Unknown ∷ Unknown ∷ Unknown ∷ [])
 unfolding gCode
 no-g = refl
 
@@ -62,6 +62,17 @@ pub drills-stay : keep (kept.Of motion.Redrawing) (kept.Of motion.Feed) ≡ kept
 unfolding keep
 drills-stay = refl
 
+-- 02: "G02 and G03 are kept"; "G02 is clockwise"
+pub arcs-kept : map (λ (n : ℕ). keep (motionBy (gCode n) kept.Nothing) (kept.Of motion.Feed)) (2 ∷ 3 ∷ []) ≡ (kept.Of motion.Clockwise ∷ kept.Of motion.Counterclockwise ∷ [])
+unfolding gCode motionBy keep
+arcs-kept = refl
+
+-- "I or K beside another group 0 word in 9": they may stand with G02 and G03, and where no such word stands
+pub with-centre : map (λ (n : ℕ). standsBy (gCode n) .centre) (0 ∷ 1 ∷ 2 ∷ 3 ∷ 33 ∷ 4 ∷ 84 ∷ 85 ∷ 86 ∷ 87 ∷ 88 ∷ 71 ∷ [])
+    ≡ (false ∷ false ∷ true ∷ true ∷ false ∷ false ∷ false ∷ false ∷ false ∷ false ∷ false ∷ true ∷ [])
+unfolding gCode standsBy standsWith standsFreely
+with-centre = refl
+
 -- "D0 D2 D3 with G84; D3 D4 D5 with G86"
 pub with-g84 : map (isTaken (standsWith motion.Turning .takes)) (0 ∷ 1 ∷ 2 ∷ 3 ∷ 4 ∷ 5 ∷ []) ≡ (true ∷ false ∷ true ∷ true ∷ false ∷ false ∷ [])
 unfolding standsWith isTaken
@@ -90,5 +101,5 @@ with-g88 = refl
 -- a motion that takes no D word
 pub with-g01 : map (isTaken (standsWith motion.Feed .takes)) (0 ∷ 1 ∷ 2 ∷ 3 ∷ 4 ∷ 5 ∷ 6 ∷ 7 ∷ 8 ∷ 9 ∷ [])
     ≡ (false ∷ false ∷ false ∷ false ∷ false ∷ false ∷ false ∷ false ∷ false ∷ false ∷ [])
-unfolding standsWith standsFreely isTaken
+unfolding standsWith isTaken
 with-g01 = refl

@@ -10,11 +10,13 @@ use Rattle.codes.specs.declared.meaning.Flow.the-variants as flow
 use Rattle.acts.specs.declared.acting.Kept.{Kept}
 use Rattle.acts.specs.declared.acting.Kept.the-variants.{Nothing, Of}
 
--- "00 01 33 (kept) and 04 84 86 (that block only; the kept one stays)"; G85, G87 and G88 go with G84 and G86
+-- "00 01 33 (kept) and 04 84 86 (that block only; the kept one stays)"; G85, G87 and G88 go with G84 and G86; 02: "G02 and G03 are kept"
 unfoldable pub keep : Kept → Kept → Kept
 keep Nothing before = before
 keep (Of motion.Rapid) before = Of motion.Rapid
 keep (Of motion.Feed) before = Of motion.Feed
+keep (Of motion.Clockwise) before = Of motion.Clockwise
+keep (Of motion.Counterclockwise) before = Of motion.Counterclockwise
 keep (Of motion.Thread) before = Of motion.Thread
 keep (Of motion.Dwell) before = before
 keep (Of motion.Turning) before = before

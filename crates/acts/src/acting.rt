@@ -1,5 +1,5 @@
 // What a number says of one thing, else what was before: the motion and what is kept of it, a shift, how S and F count; and whether an M number ends the run or returns.
-// (01: "0 is 00 01 33 (kept) and 04 84 86 (that block only; the kept one stays)", with which G85, G87 and G88 go; "G54 and G55 call shifts 1 and 2, ..; G53 and G56 cancel".)
+// (01: "0 is 00 01 33 (kept) and 04 84 86 (that block only; the kept one stays)", with which G85, G87 and G88 go; 02: "G02 and G03 are kept"; "G54 and G55 call shifts 1 and 2, ..; G53 and G56 cancel".)
 use codes::meaning::Code;
 use codes::meaning::Flow;
 use codes::meaning::Meaning;
@@ -13,7 +13,7 @@ pub enum Kept {
     Of(Motion),
 }
 
-// What is kept of a block's motion: G00, G01 and G33; the others hold for that block only, and the one before stays.
+// What is kept of a block's motion: G00 to G03 and G33; the others hold for that block only, and the one before stays.
 pub fn keep_of(now: Kept, before: Kept) -> Kept
     ensures { λ r. ⌜ r ≡ keep now before ⌝ }
 {
@@ -22,6 +22,8 @@ pub fn keep_of(now: Kept, before: Kept) -> Kept
         Kept::Of(m) => match m {
             Motion::Rapid => Kept::Of(m),
             Motion::Feed => Kept::Of(m),
+            Motion::Clockwise => Kept::Of(m),
+            Motion::Counterclockwise => Kept::Of(m),
             Motion::Thread => Kept::Of(m),
             Motion::Dwell => before,
             Motion::Turning => before,

@@ -1,4 +1,4 @@
--- 01: "Known addresses: N G X Z U W F S T M L P D." "Small letters count as capitals." "Spaces may stand around words and not inside one; a comment counts
+-- 01: "Known addresses: N G X Z U W F S T M L P D." 02: "I and K, numbers like X". "Small letters count as capitals." "Spaces may stand around words and not inside one; a comment counts
 -- as a space." "P and D carry an index digit and `=`, as `D3=600`. The part of a word after its address is read as a number by one rule."
 use mathlib.Core.Bool.{Bool, false, cond, not, _&&_, _||_}
 use mathlib.Core.List.{List, [], _∷_}
@@ -7,7 +7,7 @@ use lib.Dec.{leb, ltb, eqb}
 use lib.IntN.{natAbs}
 use lib.ListN.{length, getD, take, drop}
 use Rattle.whole.specs.Among.{among}
-use Rattle.letters.specs.Letters.{space, percent, opening, equals, digitZero, letterD, letterF, letterG, letterL, letterM, letterN, letterO, letterP, letterS, letterT, letterU, letterW, letterX, letterZ}
+use Rattle.letters.specs.Letters.{space, percent, opening, equals, digitZero, letterD, letterF, letterG, letterI, letterK, letterL, letterM, letterN, letterO, letterP, letterS, letterT, letterU, letterW, letterX, letterZ}
 use Rattle.numbers.specs.declared.NumberForm.{NumberForm}
 use Rattle.numbers.specs.declared.NumberForm.the-variants.{Path, TwoDigits, FourDigits, FiveDigits, DNumber}
 use Rattle.numbers.specs.declared.Number.{Number}
@@ -35,7 +35,7 @@ endsNumber b = (leb 65 b && leb b 90) || ((leb 97 b && leb b 122) || among b (pe
 -- `block` makes them a fault
 unfoldable pub formOf : ℕ → Address
 formOf a =
-    cond (among a (letterX ∷ letterZ ∷ letterU ∷ letterW ∷ letterP ∷ [])) (Known Path)
+    cond (among a (letterX ∷ letterZ ∷ letterU ∷ letterW ∷ letterI ∷ letterK ∷ letterP ∷ [])) (Known Path)
     (cond (among a (letterG ∷ letterM ∷ [])) (Known TwoDigits)
     (cond (among a (letterN ∷ letterF ∷ letterS ∷ letterT ∷ percent ∷ letterO ∷ [])) (Known FourDigits)
     (cond (among a (letterL ∷ [])) (Known FiveDigits) (cond (among a (letterD ∷ [])) (Known DNumber) Unknown))))

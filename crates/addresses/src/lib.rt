@@ -80,7 +80,7 @@ fn form_of(address: u8) -> Address
     ensures { λ r. ⌜ r ≡ formOf address ⌝ }
 {
     match address {
-        b'X' | b'Z' | b'U' | b'W' | b'P' => Address::Known(NumberForm::Path),
+        b'X' | b'Z' | b'U' | b'W' | b'I' | b'K' | b'P' => Address::Known(NumberForm::Path),
         b'G' | b'M' => Address::Known(NumberForm::TwoDigits),
         b'N' | b'F' | b'S' | b'T' | b'%' | b'O' => Address::Known(NumberForm::FourDigits),
         b'L' => Address::Known(NumberForm::FiveDigits),

@@ -16,7 +16,6 @@ use Rattle.settings.specs.Limits.{outside}
 use Rattle.settings.specs.declared.limits.Limits.{Limits}
 use Rattle.settings.specs.declared.control.Settings.{Settings}
 use Rattle.tape.specs.Lines.{lines}
-use Rattle.codes.specs.declared.meaning.Motion.{Motion}
 use Rattle.codes.specs.declared.meaning.Motion.the-variants as motion
 use Rattle.acts.specs.declared.acting.Kept.{Kept}
 use Rattle.acts.specs.declared.acting.Kept.the-variants as kept
@@ -25,16 +24,18 @@ use Rattle.finding.specs.Finding.{findProgram, blockOfProgram}
 use Rattle.places.specs.declared.Found.{Found}
 use Rattle.places.specs.declared.Found.the-variants.{At, Nowhere}
 use Rattle.axes.specs.Limits.{anyOutside}
+use Rattle.arcs.specs.Arcs.{uneven, straying}
 use Rattle.cycles.specs.Cycle as cycle
+use Rattle.cycles.specs.Feeds.{leastOfFeed}
 use Rattle.cycles.specs.declared.Cycle as cycles
 use Rattle.state.specs.Modal.{settled, blockMotion}
 use Rattle.state.specs.Request.{requestOf}
 use Rattle.state.specs.declared.modal.State.{State}
 use Rattle.state.specs.declared.request.Request.{Request}
 use Rattle.state.specs.declared.request.Request.the-variants as asks
-use Rattle.deeds.specs.Deed.{hasPath, straightIf, moveOf, deedOf}
+use Rattle.deeds.specs.Deed.{hasPath, hasCentre, straightIf, roundOf, roundIf, moveOf, deedOf}
 use Rattle.deeds.specs.declared.deed.Deed.{Deed}
-use Rattle.deeds.specs.declared.deed.Deed.the-variants.{Nothing, Nowhere as Aimless, Dwell, Straight, Cycle}
+use Rattle.deeds.specs.declared.deed.Deed.the-variants.{Nothing, Nowhere as Aimless, Dwell, Straight, Round, Cycle}
 use Rattle.deeds.specs.declared.deed.Sending.{Sending}
 use Rattle.asking.specs.Judge.{refused as refusedCycle, ofRecords, asksOf, feedWrong, roomWrong, alarmOf, doing}
 use Rattle.asking.specs.declared.Asked.{Asked}
@@ -51,15 +52,27 @@ use Rattle.ahead.specs.declared.Onward.the-variants.{On, Call, Jump, Return, En
 use Rattle.steps.specs.Steps.{Task, blockOn, onwardBy, onwardOf, alarmBy, alarmAt}
 use Rattle.steps.specs.declared.step.Run.{Run}
 use Rattle.alarmed.specs.Order.{Passes, Refused}
-use Rattle.alarmed.specs.Tests.{Begun, noneLeft, endsBadly, endBad, nowhere, calls, callBad, jumps, jumpBad, deepens, callDeep, isNone, motionless, otherTraverse, rapidMissing, leastFeed, feedBad, wrongCycle, lengthsBad, endsOf, outsideBad, recordsOf, overfull, blockOrder}
+use Rattle.alarmed.specs.Tests.{Begun, noneLeft, endsBadly, endBad, nowhere, calls, callBad, jumps, jumpBad, deepens, callDeep, isNone, isStraight, lacksMotion, motionless, otherTraverse, rapidMissing, leastFeed, feedBad, wrongLengths, lengthsBad, goesOutside, outsideBad, recordsOf, overfull, blockOrder}
 use Rattle.alarmed.proofs.Orders.{first, Above, passes, refused}
 
 -- ---- 15 to 20
--- a path word with no motion function, and nothing else, leads nowhere
-straight-aims : (path g00 : Bool) (least : ℕ) (r : Record) (l : Limits) → asksOf (straightIf path g00 least r) l .nowhere ≡ false
+-- a path word, or I or K, with no motion function, or I or K with a kept one that is no arc, and nothing else, leads nowhere
+straight-aims : (b : Block) (g00 : Bool) (least : ℕ) (r : Record) (l : Limits) → hasCentre b ≡ asksOf (straightIf b g00 least r) l .nowhere
 unfolding straightIf asksOf
-straight-aims true g00 least r l = refl
-straight-aims false g00 least r l = refl
+straight-aims b g00 least r l = by (hasCentre b) (hasPath b)
+  where
+    by : (centre path : Bool) → centre ≡ asksOf (cond centre Aimless (cond path (Straight (record { rapid = g00; least = least; goes = r })) Nothing)) l .nowhere
+    by true path = refl
+    by false true = refl
+    by false false = refl
+
+round-aims : (clockwise : Bool) (b : Block) (s : Sending) (l : Limits) → false ≡ asksOf (roundIf clockwise b s) l .nowhere
+unfolding roundIf asksOf
+round-aims clockwise b s l = by (hasPath b)
+  where
+    by : (path : Bool) → false ≡ asksOf (cond path (Round (roundOf clockwise b s)) Nothing) l .nowhere
+    by true = refl
+    by false = refl
 
 dwell-aims : (r : Record) (l : Limits) → asksOf (Dwell r) l .nowhere ≡ false
 unfolding asksOf
@@ -73,27 +86,29 @@ cycle-aims c l = by (cycle.wrong c)
     by true = refl
     by false = refl
 
-move-aims : (m : Motion) (b : Block) (s : Sending) (l : Limits) → asksOf (moveOf m b s) l .nowhere ≡ false
-unfolding moveOf
-move-aims motion.Rapid b s l = straight-aims (hasPath b) _ _ _ l
-move-aims motion.Feed b s l = straight-aims (hasPath b) _ _ _ l
-move-aims motion.Thread b s l = straight-aims (hasPath b) _ _ _ l
-move-aims motion.Dwell b s l = dwell-aims _ l
-move-aims motion.Turning b s l = cycle-aims _ l
-move-aims motion.Threading b s l = cycle-aims _ l
-move-aims motion.Grooving b s l = cycle-aims _ l
-move-aims motion.ChipBreaking b s l = cycle-aims _ l
-move-aims motion.Redrawing b s l = cycle-aims _ l
-
 path-aims : (path : Bool) (l : Limits) → path ≡ asksOf (cond path Aimless Nothing) l .nowhere
 unfolding asksOf
 path-aims true l = refl
 path-aims false l = refl
 
-aims : (m : Kept) (b : Block) (s : Sending) (l : Limits) → (isNone m && hasPath b) ≡ asksOf (deedOf m b s) l .nowhere
-unfolding isNone deedOf
-aims kept.Nothing b s l = path-aims (hasPath b) l
-aims (kept.Of m) b s l = sym (move-aims m b s l)
+or-no : (t : Bool) → (t || false) ≡ t
+or-no true = refl
+or-no false = refl
+
+aims : (m : Kept) (b : Block) (s : Sending) (l : Limits) → lacksMotion m b ≡ asksOf (deedOf m b s) l .nowhere
+unfolding isNone isStraight lacksMotion deedOf moveOf
+aims kept.Nothing b s l = or-no (hasPath b || hasCentre b) ∙ path-aims (hasPath b || hasCentre b) l
+aims (kept.Of motion.Rapid) b s l = straight-aims b _ _ _ l
+aims (kept.Of motion.Feed) b s l = straight-aims b _ _ _ l
+aims (kept.Of motion.Clockwise) b s l = round-aims true b s l
+aims (kept.Of motion.Counterclockwise) b s l = round-aims false b s l
+aims (kept.Of motion.Thread) b s l = straight-aims b _ _ _ l
+aims (kept.Of motion.Dwell) b s l = sym (dwell-aims _ l)
+aims (kept.Of motion.Turning) b s l = sym (cycle-aims _ l)
+aims (kept.Of motion.Threading) b s l = sym (cycle-aims _ l)
+aims (kept.Of motion.Grooving) b s l = sym (cycle-aims _ l)
+aims (kept.Of motion.ChipBreaking) b s l = sym (cycle-aims _ l)
+aims (kept.Of motion.Redrawing) b s l = sym (cycle-aims _ l)
 
 -- 20, of what is left and of what there is
 room-same : (room count n : ℕ) → (ltb 0 n && ltb room (count + n)) ≡ (ltb 0 n && ltb (room - count) n)
@@ -115,14 +130,10 @@ module _ (l : Limits) (due : Bool) (f other room count : ℕ) where
   abbrev behindNowhere : Deed → ℕ → ℕ
   behindNowhere d n =
       cond (due && otherTraverse d) notRapid
-      (cond (feedWrong (leastFeed d) f) badFeed (cond (wrongCycle d) badLengths (cond (anyOutside l (endsOf d)) outsideLimits (cond (over n) noRoom 0))))
+      (cond (feedWrong (leastFeed d) f) badFeed (cond (wrongLengths d) badLengths (cond (goesOutside l d) outsideLimits (cond (over n) noRoom 0))))
 
   same-room : {n m : ℕ} → n ≡ m → over n ≡ (ltb 0 m && ltb (room - count) m)
   same-room {n} {m} e = room-same room count n ∙ ap (λ (k : ℕ). ltb 0 k && ltb (room - count) k) e
-
-  or-no : (t : Bool) → (t || false) ≡ t
-  or-no true = refl
-  or-no false = refl
 
   -- a cycle, by whether it is wrong
   cycle-first : (c : cycles.Cycle) (n : ℕ) → over n ≡ roomWrong (length (cycle.records c)) asked → (w : Bool)
@@ -134,12 +145,14 @@ module _ (l : Limits) (due : Bool) (f other room count : ℕ) where
       ap (λ (t : Bool). cond (due && true) notRapid (cond (feedWrong (cycle.leastFeed c) f) badFeed (cond (anyOutside l (cycle.records c)) outsideLimits (cond t noRoom 0)))) e
 
   deed-first : (d : Deed) (n : ℕ) → n ≡ length (doing d) + other → cond (asksOf d l .nowhere) noMotion (behindNowhere d n) ≡ alarmOf (asksOf d l) asked
-  unfolding asksOf alarmOf doing otherTraverse leastFeed wrongCycle endsOf anyOutside
+  unfolding asksOf alarmOf doing otherTraverse leastFeed wrongLengths goesOutside anyOutside
   deed-first Nothing n e = ap (λ (t : Bool). cond (due && false) notRapid (cond (feedWrong 0 f) badFeed (cond t noRoom 0))) (same-room e)
   deed-first Aimless n e = refl
   deed-first (Dwell r) n e = ap (λ (t : Bool). cond (due && false) notRapid (cond (feedWrong 0 f) badFeed (cond t noRoom 0))) (same-room e)
   deed-first (Straight m) n e =
-      λ i. cond (due && not (m .rapid)) notRapid (cond (feedWrong (m .least) f) badFeed (cond (or-no (outside l (m .goes .x) (m .goes .z)) i) outsideLimits (cond (same-room e i) noRoom 0)))
+      ap (λ (t : Bool). cond (due && not (m .rapid)) notRapid (cond (feedWrong (m .least) f) badFeed (cond (outside l (m .goes .x) (m .goes .z)) outsideLimits (cond t noRoom 0)))) (same-room e)
+  deed-first (Round r) n e =
+      ap (λ (t : Bool). cond (due && true) notRapid (cond (feedWrong leastOfFeed f) badFeed (cond (uneven (r .arc)) badLengths (cond (straying l (r .arc)) outsideLimits (cond t noRoom 0))))) (same-room e)
   deed-first (Cycle c) n e = go (cycle.wrong c)
     where
       go : (w : Bool) → cond (cond w (refusedCycle c) (ofRecords c l) .nowhere) noMotion

@@ -11,8 +11,11 @@ use Rattle.whole.specs.Among.{among}
 use Rattle.moves.specs.Form.{headerSize}
 use Rattle.moves.specs.declared.record.Record.{Record}
 use Rattle.settings.specs.Wrong.{settingsWrong, highestProgram, highestSubroutine}
+use Rattle.settings.specs.Limits.{outside}
 use Rattle.settings.specs.declared.control.Settings.{Settings}
+use Rattle.settings.specs.declared.limits.Limits.{Limits}
 use Rattle.tape.specs.Lines.{opensTape, lines}
+use Rattle.codes.specs.declared.meaning.Motion.the-variants as motion
 use Rattle.acts.specs.declared.acting.Kept.{Kept}
 use Rattle.acts.specs.declared.acting.Kept.the-variants as kept
 use Rattle.block.specs.Slots.{anyOf}
@@ -26,15 +29,17 @@ use Rattle.finding.specs.Finding.{findProgram, blockOfProgram}
 use Rattle.places.specs.declared.Found.{Found}
 use Rattle.places.specs.declared.Found.the-variants.{At, Nowhere}
 use Rattle.axes.specs.Limits.{anyOutside}
+use Rattle.arcs.specs.Arcs.{uneven, straying}
 use Rattle.cycles.specs.Cycle as cycle
+use Rattle.cycles.specs.Feeds.{leastOfFeed}
 use Rattle.state.specs.Modal.{settled, blockMotion}
 use Rattle.state.specs.Request.{requestOf}
 use Rattle.state.specs.declared.modal.State.{State}
 use Rattle.state.specs.declared.request.Request.{Request}
 use Rattle.state.specs.declared.request.Request.the-variants as asks
-use Rattle.deeds.specs.Deed.{hasPath}
+use Rattle.deeds.specs.Deed.{hasPath, hasCentre}
 use Rattle.deeds.specs.declared.deed.Deed.{Deed}
-use Rattle.deeds.specs.declared.deed.Deed.the-variants.{Nothing, Nowhere as Aimless, Dwell, Straight, Cycle}
+use Rattle.deeds.specs.declared.deed.Deed.the-variants.{Nothing, Nowhere as Aimless, Dwell, Straight, Round, Cycle}
 use Rattle.asking.specs.Judge.{feedWrong}
 use Rattle.verdicts.specs.Verdicts.{deedIn}
 use Rattle.machine.specs.Blocks.{doneRecords}
@@ -200,13 +205,31 @@ deepens asks.End = false
 unfoldable pub callDeep : Begun → Bool
 callDeep x = deepens (request x) && leb mostCalls (x .deep)
 
--- 15 "path word with no motion function"
+-- 15 "path word with no motion function". 02: "I or K .. under another kept one or none in 15"; beside another word of group 0 of their own block they are 9
 unfoldable pub isNone : Kept → Bool
 isNone kept.Nothing = true
 isNone (kept.Of m) = false
 
+-- a motion that is kept and is no arc
+unfoldable pub isStraight : Kept → Bool
+isStraight kept.Nothing = false
+isStraight (kept.Of motion.Rapid) = true
+isStraight (kept.Of motion.Feed) = true
+isStraight (kept.Of motion.Clockwise) = false
+isStraight (kept.Of motion.Counterclockwise) = false
+isStraight (kept.Of motion.Thread) = true
+isStraight (kept.Of motion.Dwell) = false
+isStraight (kept.Of motion.Turning) = false
+isStraight (kept.Of motion.Threading) = false
+isStraight (kept.Of motion.Grooving) = false
+isStraight (kept.Of motion.ChipBreaking) = false
+isStraight (kept.Of motion.Redrawing) = false
+
+unfoldable pub lacksMotion : Kept → Block → Bool
+lacksMotion m b = (isNone m && (hasPath b || hasCentre b)) || (isStraight m && hasCentre b)
+
 unfoldable pub motionless : Begun → Bool
-motionless x = isNone (blockMotion (x .run .state .motion) (wordsOf x)) && hasPath (wordsOf x)
+motionless x = lacksMotion (blockMotion (x .run .state .motion) (wordsOf x)) (wordsOf x)
 
 -- 16 "first traverse not G00": a G00 is due, and the block is a traverse and no G00. "Cycles and G33 are traverses; blocks without a move are none."
 unfoldable pub otherTraverse : Deed → Bool
@@ -214,43 +237,47 @@ otherTraverse Nothing = false
 otherTraverse Aimless = false
 otherTraverse (Dwell r) = false
 otherTraverse (Straight m) = not (m .rapid)
+otherTraverse (Round r) = true
 otherTraverse (Cycle c) = true
 
 unfoldable pub rapidMissing : Begun → Bool
 rapidMissing x = acted x .«rapid_due» && otherTraverse (deed x)
 
--- 17 "F missing or out of range": by the least F that a move takes, 0 where it takes none
+-- 17 "F missing or out of range": by the least F that a move takes, 0 where it takes none. 02: "G02 and G03 .. need F .. as G01 does"
 unfoldable pub leastFeed : Deed → ℕ
 leastFeed Nothing = 0
 leastFeed Aimless = 0
 leastFeed (Dwell r) = 0
 leastFeed (Straight m) = m .least
+leastFeed (Round r) = leastOfFeed
 leastFeed (Cycle c) = cycle.leastFeed c
 
 unfoldable pub feedBad : Begun → Bool
 feedBad x = feedWrong (leastFeed (deed x)) (acted x .f)
 
--- 19 "cycle lengths, directions or tool width"
-unfoldable pub wrongCycle : Deed → Bool
-wrongCycle Nothing = false
-wrongCycle Aimless = false
-wrongCycle (Dwell r) = false
-wrongCycle (Straight m) = false
-wrongCycle (Cycle c) = cycle.wrong c
+-- 19 "cycle lengths, directions or tool width"; 02, of an arc: "a zero distance or unequal distances"
+unfoldable pub wrongLengths : Deed → Bool
+wrongLengths Nothing = false
+wrongLengths Aimless = false
+wrongLengths (Dwell r) = false
+wrongLengths (Straight m) = false
+wrongLengths (Round r) = uneven (r .arc)
+wrongLengths (Cycle c) = cycle.wrong c
 
 unfoldable pub lengthsBad : Begun → Bool
-lengthsBad x = wrongCycle (deed x)
+lengthsBad x = wrongLengths (deed x)
 
--- 18 "a move ends outside the limits": by where each move ends
-unfoldable pub endsOf : Deed → List Record
-endsOf Nothing = []
-endsOf Aimless = []
-endsOf (Dwell r) = []
-endsOf (Straight m) = m .goes ∷ []
-endsOf (Cycle c) = cycle.records c
+-- 18 "a move ends outside the limits": by where each move ends. 02, of an arc: "The soft limits hold for the end and for every quadrant point .. that the arc crosses between its ends"
+unfoldable pub goesOutside : Limits → Deed → Bool
+goesOutside l Nothing = false
+goesOutside l Aimless = false
+goesOutside l (Dwell r) = false
+goesOutside l (Straight m) = outside l (m .goes .x) (m .goes .z)
+goesOutside l (Round r) = straying l (r .arc)
+goesOutside l (Cycle c) = anyOutside l (cycle.records c)
 
 unfoldable pub outsideBad : Begun → Bool
-outsideBad x = anyOutside (x .task .settings .limits) (endsOf (deed x))
+outsideBad x = goesOutside (x .task .settings .limits) (deed x)
 
 -- 20 "records above 4,000 or above the buffer": those that are written and all of the block's; one that writes none is not asked
 unfoldable pub recordsOf : Begun → List Record

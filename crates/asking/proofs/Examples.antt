@@ -2,25 +2,27 @@
 -- Assumes nothing.
 use mathlib.Core.Path.{_≡_, refl}
 use mathlib.Core.Bool.{Bool, true, false}
-use mathlib.Core.List.{List, [], _∷_, _++_}
-use Prim.Native.Nat.{ℕ}
+use mathlib.Core.List.{List, [], _∷_, _++_, map}
+use Prim.Native.Nat.{ℕ, _-_}
 use lib.IntN.{ℤ, pos, negsuc}
 use lib.ListN.{replicate}
 use Rattle.codes.specs.Codes.{gCode}
-use Rattle.block.specs.Slots.{has, codeIn, gIn}
+use Rattle.block.specs.Slots.{tSlot, dSlot, motionSlot, has, codeIn, gIn}
 use Rattle.state.specs.Modal.{atStart, blockMotion, feedAfter, dueAfter, settled}
 use Rattle.acts.specs.Acting.{motionBy, keep}
 use Rattle.codes.specs.declared.meaning.Motion.the-variants as motion
 use Rattle.block.specs.declared.words.Block.{Block}
 use Rattle.settings.specs.declared.limits.Span.{Span}
 use Rattle.settings.specs.Limits.{outsideSpan, outside}
+use Rattle.acts.specs.declared.acting.Kept.{Kept}
 use Rattle.acts.specs.declared.acting.Kept.the-variants as kept
+use Rattle.arcs.specs.Arcs.{arcOf}
 use Rattle.state.specs.declared.modal.State.{State}
 use Rattle.turning.specs.Turning.{tooShort}
 use Rattle.deeds.specs.declared.deed.Deed.the-variants as deed
 use Rattle.deeds.specs.declared.deed.Sending.{Sending}
 use Rattle.asking.specs.declared.Asked.{Asked}
-use Rattle.deeds.specs.Deed.{hasPath, isFacing, turningOf, grooveOf, straightIf, moveOf, deedOf}
+use Rattle.deeds.specs.Deed.{hasPath, hasCentre, isFacing, turningOf, grooveOf, straightIf, roundOf, roundIf, moveOf, deedOf}
 use Rattle.asking.specs.Judge.{asksOf, alarmOf}
 use Rattle.moves.specs.Kinds.{rapid, feed, thread}
 use Rattle.moves.specs.declared.record.Record.{Record}
@@ -31,7 +33,7 @@ use Rattle.settings.specs.declared.limits.Limits.{Limits}
 -- a block of an X and a Z word and of the first six D words, with the places of the X and the Z word
 abbrev words : ℕ → ℕ → ℤ → ℤ → List ℤ → Block
 words k m x z ds = record {
-  value = x ∷ z ∷ replicate 19 (pos 0) ++ ds;
+  value = x ∷ z ∷ replicate (dSlot 0 - 2) (pos 0) ++ ds;
   place = k ∷ m ∷ [];
   words = 8;
   late = false;
@@ -110,12 +112,52 @@ grooved-facing = refl
 
 -- "Without a path word G00, G01 and G33 make no move"; a path word with no motion function leads nowhere
 pub no-path : deedOf (kept.Of motion.Feed) (words 0 0 (pos 0) (pos 0) []) sent ≡ deed.Nothing
-unfolding has hasPath straightIf moveOf deedOf
+unfolding has hasPath hasCentre straightIf moveOf deedOf
 no-path = refl
 
 pub no-motion : deedOf kept.Nothing (words 2 0 (pos 0) (pos 0) []) sent ≡ deed.Nowhere
-unfolding has hasPath deedOf
+unfolding has hasPath hasCentre deedOf
 no-motion = refl
+
+-- 02: "I and K .. give the centre from the start, per side, missing is 0": I counts twice on the diameter. A block of the words X Z U W I K with their places
+abbrev centred : List ℤ → List ℕ → Block
+centred values places = record { value = values; place = places; words = 3; late = false; unknown = false; ends = false; pointless = false }
+
+-- X30. and I-1.5
+abbrev xi : Block
+xi = centred (pos 30000 ∷ pos 0 ∷ pos 0 ∷ pos 0 ∷ negsuc 1499 ∷ []) (1 ∷ 0 ∷ 0 ∷ 0 ∷ 2 ∷ [])
+
+-- I-1.5 alone
+abbrev i : Block
+i = centred (pos 0 ∷ pos 0 ∷ pos 0 ∷ pos 0 ∷ negsuc 1499 ∷ []) (0 ∷ 0 ∷ 0 ∷ 0 ∷ 1 ∷ [])
+
+pub rounded : deedOf (kept.Of motion.Clockwise) xi sent ≡
+    deed.Round (record {
+      arc = record {
+        clockwise = true;
+        start = record { x = pos 40000; z = pos 2000 };
+        end = record { x = pos 30000; z = negsuc 19999 };
+        centre = record { x = pos 37000; z = pos 2000 };
+      };
+      f = 120;
+      g95 = true;
+    })
+unfolding has hasPath arcOf roundOf roundIf moveOf deedOf
+rounded = refl
+
+-- "want a path word as G01 does": without one G02 and G03 make no move, with I or K too
+pub no-arc : deedOf (kept.Of motion.Counterclockwise) i sent ≡ deed.Nothing
+unfolding has hasPath roundIf moveOf deedOf
+no-arc = refl
+
+-- "I or K .. under another kept one or none in 15", with a path word or without
+pub lost : map (λ (k : Kept). deedOf k xi sent) (kept.Of motion.Rapid ∷ kept.Of motion.Feed ∷ kept.Of motion.Thread ∷ kept.Nothing ∷ []) ≡ replicate 4 deed.Nowhere
+unfolding has hasPath hasCentre straightIf moveOf deedOf
+lost = refl
+
+pub lost-alone : map (λ (k : Kept). deedOf k i sent) (kept.Of motion.Rapid ∷ kept.Of motion.Feed ∷ kept.Of motion.Thread ∷ kept.Nothing ∷ []) ≡ replicate 4 deed.Nowhere
+unfolding has hasPath hasCentre straightIf moveOf deedOf
+lost-alone = refl
 
 -- ---- the alarms
 -- a span of 50 mm to either side
@@ -179,15 +221,15 @@ no-alarm = refl
 
 -- ---- P10: "T0101, then G01 X1.: alarm 16"
 abbrev tool : Block
-tool = record { value = replicate 6 (pos 0) ++ pos 101 ∷ []; place = replicate 6 0 ++ 1 ∷ []; words = 1; late = false; unknown = false; ends = false; pointless = false }
+tool = record { value = replicate tSlot (pos 0) ++ pos 101 ∷ []; place = replicate tSlot 0 ++ 1 ∷ []; words = 1; late = false; unknown = false; ends = false; pointless = false }
 
 abbrev feeding : Block
-feeding = record { value = pos 1000 ∷ replicate 31 (pos 0) ++ pos 1 ∷ []; place = 2 ∷ replicate 31 0 ++ 1 ∷ []; words = 2; late = false; unknown = false; ends = false; pointless = false }
+feeding = record { value = pos 1000 ∷ replicate (motionSlot - 1) (pos 0) ++ pos 1 ∷ []; place = 2 ∷ replicate (motionSlot - 1) 0 ++ 1 ∷ []; words = 2; late = false; unknown = false; ends = false; pointless = false }
 
 -- the state in which the second block makes its move
 abbrev before : State
 before = settled (settled (atStart (pos 0) (pos 0)) tool) feeding
 
 pub p10 : alarmOf (asksOf (deedOf (blockMotion (before .motion) feeding) feeding sent) fifties) (asked (before .«rapid_due») (before .f) 100) ≡ 16
-unfolding has gCode codeIn gIn motionBy blockMotion keep dueAfter feedAfter settled hasPath moveOf deedOf straightIf asksOf alarmOf
+unfolding has gCode codeIn gIn motionBy blockMotion keep dueAfter feedAfter settled hasPath hasCentre moveOf deedOf straightIf asksOf alarmOf
 p10 = refl

@@ -9,13 +9,14 @@ use lib.ListN.{length}
 use borrow.Author.Tests.{ltb-false, lt-ltb}
 use Rattle.alarms.specs.Numbers.{noMotion, notRapid, badFeed, outsideLimits, badLengths, noRoom}
 use Rattle.moves.specs.Form.{AllFitting}
+use Rattle.arcs.proofs.Ranges.{fits-three, arc-fitting}
 use Rattle.axes.specs.Limits.{anyOutside}
 use Rattle.settings.specs.declared.limits.Limits.{Limits}
 use Rattle.cycles.specs.Cycle as cycle
 use Rattle.cycles.specs.declared.Cycle as cycles
 use Rattle.cycles.proofs.Lawful.{lawful}
 use Rattle.deeds.specs.declared.deed.Deed.{Deed}
-use Rattle.deeds.specs.declared.deed.Deed.the-variants.{Nothing, Nowhere, Dwell, Straight, Cycle}
+use Rattle.deeds.specs.declared.deed.Deed.the-variants.{Nothing, Nowhere, Dwell, Straight, Round, Cycle}
 use Rattle.asking.specs.declared.Asked.{Asked}
 use Rattle.asking.specs.declared.Asks.{Asks}
 use Rattle.asking.specs.Judge.{refused, ofRecords, ofCycle, asksOf, feedWrong, roomWrong, alarmOf, doing}
@@ -81,6 +82,7 @@ all-right Nothing l e = tt
 all-right Nowhere l e = tt
 all-right (Dwell r) l e = tt
 all-right (Straight m) l e = tt
+all-right (Round r) l e = e
 all-right (Cycle c) l e = right c l e
 
 -- they are as many as was counted, and their numbers fit
@@ -90,6 +92,7 @@ counted Nothing l e = refl
 counted Nowhere l e = refl
 counted (Dwell r) l e = refl
 counted (Straight m) l e = refl
+counted (Round r) l e = refl
 counted (Cycle c) l e = rw e refl
 
 pub doing-fitting : (d : Deed) → Right d → Known d → AllFitting (doing d)
@@ -98,4 +101,5 @@ doing-fitting Nothing e k = tt
 doing-fitting Nowhere e k = tt
 doing-fitting (Dwell r) e k = (k, tt)
 doing-fitting (Straight m) e k = (k, tt)
+doing-fitting (Round r) e k = arc-fitting (r .arc) (r .f) (r .g95) (k .endX) (k .endZ) (fits-three (k .centreX)) (fits-three (k .centreZ)) (k .f)
 doing-fitting (Cycle c) e k = lawful c e k .fitting

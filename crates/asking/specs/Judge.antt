@@ -1,5 +1,6 @@
 -- The alarms of a deed: 15 "path word with no motion function", 16 "first traverse not G00", 17 "F missing or out of range", 19 "cycle lengths, directions or tool width", 18 "a move
--- ends outside the limits", 20 "records above 4,000 or above the buffer", in this order.
+-- ends outside the limits", 20 "records above 4,000 or above the buffer", in this order. 02, of arcs:
+-- "I or K .. under another kept one or none in 15; a zero distance or unequal distances in 19; a quadrant point outside in 18"; "kinds 8 and 9 are as kind 2 with the end point, and a following record, kind 10, carries the centre".
 use mathlib.Core.Bool.{Bool, true, false, cond, not, _&&_, _||_}
 use mathlib.Core.List.{List, [], _∷_}
 use Prim.Native.Nat.{ℕ, _+_}
@@ -10,11 +11,13 @@ use Rattle.moves.specs.declared.record.Record.{Record}
 use Rattle.settings.specs.Limits.{outside}
 use Rattle.axes.specs.Limits.{anyOutside}
 use Rattle.settings.specs.declared.limits.Limits.{Limits}
-use Rattle.cycles.specs.Feeds.{greatestFeed}
+use Rattle.arcs.specs.Arcs.{arcRecords, uneven, straying}
+use Rattle.cycles.specs.Feeds.{leastOfFeed, greatestFeed}
 use Rattle.cycles.specs.Cycle as cycle
 use Rattle.cycles.specs.declared.Cycle as cycles
 use Rattle.deeds.specs.declared.deed.Deed.{Deed}
-use Rattle.deeds.specs.declared.deed.Deed.the-variants.{Nothing, Nowhere, Dwell, Straight, Cycle}
+use Rattle.deeds.specs.declared.deed.Deed.the-variants.{Nothing, Nowhere, Dwell, Straight, Round, Cycle}
+use Rattle.deeds.specs.declared.deed.Round as rounds
 use Rattle.deeds.specs.declared.deed.Straight as straights
 use Rattle.asking.specs.declared.Asked.{Asked}
 use Rattle.asking.specs.declared.Asks.{Asks}
@@ -27,6 +30,10 @@ quiet n = record { nowhere = false; waits = false; least = 0; wrong = false; out
 -- "Cycles and G33 are traverses"
 abbrev pub ofStraight : straights.Straight → Limits → Asks
 ofStraight m l = record { nowhere = false; waits = not (m .rapid); least = m .least; wrong = false; outside = outside l (m .goes .x) (m .goes .z); count = 1 }
+
+-- "G02 and G03 .. need F .. as G01 does"; both of its records are written or none
+abbrev pub ofRound : rounds.Round → Limits → Asks
+ofRound r l = record { nowhere = false; waits = true; least = leastOfFeed; wrong = uneven (r .arc); outside = straying l (r .arc); count = 2 }
 
 -- of a cycle: of every one of its records, and nothing more where its lengths are wrong
 abbrev pub refused : cycles.Cycle → Asks
@@ -43,6 +50,7 @@ asksOf Nothing l = quiet 0
 asksOf Nowhere l = record { nowhere = true; waits = false; least = 0; wrong = false; outside = false; count = 0 }
 asksOf (Dwell r) l = quiet 1
 asksOf (Straight m) l = ofStraight m l
+asksOf (Round r) l = ofRound r l
 asksOf (Cycle c) l = ofCycle c l
 
 -- ---- the alarms
@@ -68,4 +76,5 @@ doing Nothing = []
 doing Nowhere = []
 doing (Dwell r) = r ∷ []
 doing (Straight m) = m .goes ∷ []
+doing (Round r) = arcRecords (r .arc) (r .f) (r .g95)
 doing (Cycle c) = cycle.records c

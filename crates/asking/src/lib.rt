@@ -2,17 +2,19 @@
 // Nothing is written and no cycle is opened to judge it.
 use cycles::Cycle;
 use deeds::deed::Deed;
+use deeds::deed::Round;
 use deeds::deed::Straight;
 use settings::limits::Limits;
 ghost use mathlib.Core.Path.{_≡_};
 ghost use Prim.Native.Nat.{_<_};
 ghost use Rattle.cycles.specs.Cycle as cycle;
 ghost use Rattle.cycles.specs.Known as known;
-ghost use Rattle.asking.specs.Judge.{quiet, ofStraight, ofCycle, asksOf, alarmOf};
-ghost use Rattle.deeds.specs.Known.{Known};
+ghost use Rattle.asking.specs.Judge.{quiet, ofStraight, ofRound, ofCycle, asksOf, alarmOf};
+ghost use Rattle.settings.specs.Known.{SpanIn};
+ghost use Rattle.deeds.specs.Known.{Curved, Known};
 
 // What the alarms ask of a deed: whether it has a path word with no motion (15), whether it is a traverse and no G00 (16), the least F that it takes, 0 where none is asked for (17),
-// whether its lengths are wrong (19), whether a move of it ends outside the limits (18), how many records it has (20).
+// whether its lengths are wrong (19), whether a move of it ends, or an arc strays, outside the limits (18), how many records it has (20).
 pub struct Asks {
     pub nowhere: bool,
     pub waits: bool,
@@ -51,6 +53,24 @@ fn of_straight(m: Straight, l: Limits) -> Asks
     }
 }
 
+// "need F and want a path word as G01 does"; "a zero distance or unequal distances in 19; a quadrant point outside in 18".
+fn of_round(round: Round, l: Limits) -> Asks
+    requires { ⌜ Curved round × SpanIn (l .x) × SpanIn (l .z) ⌝ }
+    ensures { λ r. ⌜ r ≡ ofRound round l ⌝ }
+{
+    let arc = round.arc;
+    let wrong = arcs::arc::is_uneven(arc);
+    let outside = arcs::limits::is_straying(l, arc);
+    Asks {
+        nowhere: false,
+        waits: true,
+        least: cycles::LEAST_FEED,
+        wrong,
+        outside,
+        count: 2,
+    }
+}
+
 // Nothing more is asked of a cycle whose lengths are wrong: 19 comes before 18 and 20.
 fn of_cycle(c: Cycle, l: Limits) -> Asks
     requires { ⌜ known.Known c ⌝ }
@@ -81,7 +101,7 @@ fn of_cycle(c: Cycle, l: Limits) -> Asks
 
 // The one place of the judgement that goes by the kind of a deed.
 pub fn asks_of(d: Deed, l: Limits) -> Asks
-    requires { ⌜ Known d ⌝ }
+    requires { ⌜ Known d × SpanIn (l .x) × SpanIn (l .z) ⌝ }
     ensures { λ r. ⌜ (r ≡ asksOf d l) × (r .count < 1_000_000_000_000_000_000) ⌝ }
 {
     match d {
@@ -96,6 +116,7 @@ pub fn asks_of(d: Deed, l: Limits) -> Asks
         },
         Deed::Dwell(_) => quiet(1),
         Deed::Straight(m) => of_straight(m, l),
+        Deed::Round(r) => of_round(r, l),
         Deed::Cycle(c) => of_cycle(c, l),
     }
 }

@@ -11,7 +11,7 @@ use lib.ListN.{length, getD, set, replicate}
 use Rattle.whole.specs.Position.{inTable}
 use Rattle.whole.proofs.Integers.{whole, abs}
 use Rattle.whole.proofs.Positions.{InTable, in-table}
-use Rattle.letters.specs.Letters.{letterD, letterF, letterG, letterL, letterM, letterN, letterP, letterS, letterT, letterU, letterW, letterX, letterZ}
+use Rattle.letters.specs.Letters.{letterD, letterF, letterG, letterI, letterK, letterL, letterM, letterN, letterP, letterS, letterT, letterU, letterW, letterX, letterZ}
 use Rattle.addresses.specs.Words.{Words, word, ended, faulty, onward, formOf, nextWord, wordsUp, wordsFrom}
 use Rattle.addresses.specs.declared.Word.{Word}
 use Rattle.addresses.specs.declared.NextWord.{NextWord}
@@ -25,15 +25,15 @@ use Rattle.block.specs.declared.words.Slot.{Slot}
 use Rattle.block.specs.declared.words.Slot.the-variants.{At, Late, Unknown}
 use Rattle.block.specs.declared.words.Rest.{Rest}
 use Rattle.codes.specs.Codes.{gCode, mCode}
-use Rattle.block.specs.Slots.{slots, xSlot, zSlot, uSlot, wSlot, fSlot, sSlot, tSlot, mSlot, pSlot, dSlot, lSlot, gSlot}
+use Rattle.block.specs.Slots.{slots, xSlot, zSlot, uSlot, wSlot, iSlot, kSlot, fSlot, sSlot, tSlot, mSlot, pSlot, dSlot, lSlot, gSlot}
 use Rattle.block.specs.Words.{codeSlot, numberIn, slotOf, noWords, putIn, putWord, isProgramAddress, faultyRest, gather, lineBy, lineOf}
 use Rattle.block.specs.Worded.{Worded}
 use Rattle.block.proofs.Heads.{size-below, taken, eqb-is}
 use Rattle.codes.proofs.Tables.{CodeIn, m-groups}
 
--- ---- what the slot k may hold: X Z U W lie first, D0 to D9 in a row
+-- ---- what the slot k may hold: X Z U W I K lie first, D0 to D9 in a row
 record Holds (k : ℕ) (z : ℤ) : Type 0 where
-  path : k ≤ 3 → inTable z ≡ true
+  path : k ≤ kSlot → inTable z ≡ true
   setting : dSlot 0 ≤ k → k < dSlot 10 → natAbs z < 32_768
   any : natAbs z < 10_000_000
 
@@ -45,14 +45,14 @@ SlotHolds Unknown z = Unit {0}
 path-small : (z : ℤ) → InTable z → natAbs z < 10_000_000
 path-small z h = omega (whole, abs z, h .low, h .high)
 
--- a slot of X Z U W, one of D, and one of neither
-path-holds : (k : ℕ) (z : ℤ) → k ≤ 3 → InTable z → Holds k z
+-- a slot of X Z U W I K, one of D, and one of neither
+path-holds : (k : ℕ) (z : ℤ) → k ≤ kSlot → InTable z → Holds k z
 path-holds k z l h = record { path = λ _. in-table z h; setting = λ a _. absurd (omega (arith, l, a)); any = path-small z h }
 
 setting-holds : (k : ℕ) (z : ℤ) → dSlot 0 ≤ k → natAbs z < 32_768 → Holds k z
 setting-holds k z l h = record { path = λ a. absurd (omega (arith, l, a)); setting = λ _ _. h; any = omega arith }
 
-other-below : (k : ℕ) (z : ℤ) → 4 ≤ k → k < dSlot 0 → natAbs z < 10_000_000 → Holds k z
+other-below : (k : ℕ) (z : ℤ) → fSlot ≤ k → k < dSlot 0 → natAbs z < 10_000_000 → Holds k z
 other-below k z l h s = record { path = λ a. absurd (omega (arith, l, a)); setting = λ a _. absurd (omega (arith, h, a)); any = s }
 
 other-above : (k : ℕ) (z : ℤ) → dSlot 10 ≤ k → natAbs z < 10_000_000 → Holds k z
@@ -79,6 +79,8 @@ slot-holds w i =
     (cond-ind P (eqb a letterZ) _ _ (λ t. path-holds zSlot z (omega arith) (taken w letterZ i (eqb-is a letterZ t)))
     (cond-ind P (eqb a letterU) _ _ (λ t. path-holds uSlot z (omega arith) (taken w letterU i (eqb-is a letterU t)))
     (cond-ind P (eqb a letterW) _ _ (λ t. path-holds wSlot z (omega arith) (taken w letterW i (eqb-is a letterW t)))
+    (cond-ind P (eqb a letterI) _ _ (λ t. path-holds iSlot z (omega arith) (taken w letterI i (eqb-is a letterI t)))
+    (cond-ind P (eqb a letterK) _ _ (λ t. path-holds kSlot z (omega arith) (taken w letterK i (eqb-is a letterK t)))
     (cond-ind P (eqb a letterF) _ _ (λ t. other-below fSlot z (omega arith) (omega arith) (few z (size-below (taken w letterF i (eqb-is a letterF t))) (omega arith)))
     (cond-ind P (eqb a letterS) _ _ (λ t. other-below sSlot z (omega arith) (omega arith) (few z (size-below (taken w letterS i (eqb-is a letterS t))) (omega arith)))
     (cond-ind P (eqb a letterT) _ _ (λ t. other-below tSlot z (omega arith) (omega arith) (few z (size-below (taken w letterT i (eqb-is a letterT t))) (omega arith)))
@@ -87,7 +89,7 @@ slot-holds w i =
     (cond-ind P (eqb a letterD) _ _ (λ t. setting-holds (dSlot (w .index)) z (omega arith) (size-below (taken w letterD i (eqb-is a letterD t))))
     (cond-ind P (eqb a letterG) _ _ (λ t. g-holds (gCode (numberIn w)) z (few z (size-below (taken w letterG i (eqb-is a letterG t))) (omega arith)))
     (cond-ind P (eqb a letterM) _ _ (λ t. m-holds (mCode (numberIn w)) z (few z (size-below (taken w letterM i (eqb-is a letterM t))) (omega arith)) (m-groups (numberIn w)))
-    (cond-ind P (eqb a letterN) _ _ (λ _. tt) tt))))))))))))
+    (cond-ind P (eqb a letterN) _ _ (λ _. tt) tt))))))))))))))
 
 -- ---- a block whose slots hold what they may
 abbrev Held : List ℤ → Type 0

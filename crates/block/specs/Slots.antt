@@ -13,7 +13,7 @@ use Rattle.block.specs.declared.words.Block.{Block}
 
 -- how many there are
 abbrev pub slots : ℕ
-slots = 40
+slots = 42
 
 abbrev pub xSlot : ℕ
 xSlot = 0
@@ -27,18 +27,24 @@ uSlot = 2
 abbrev pub wSlot : ℕ
 wSlot = 3
 
+abbrev pub iSlot : ℕ
+iSlot = 4
+
+abbrev pub kSlot : ℕ
+kSlot = 5
+
 abbrev pub fSlot : ℕ
-fSlot = 4
+fSlot = 6
 
 abbrev pub sSlot : ℕ
-sSlot = 5
+sSlot = 7
 
 abbrev pub tSlot : ℕ
-tSlot = 6
+tSlot = 8
 
 -- "M groups: 0 is 03 04 05; 3 is 08 09; 2 is 00 17 30"
 abbrev pub mSlot : ℕ → ℕ
-mSlot group = 7 + group
+mSlot group = 9 + group
 
 abbrev pub spindleSlot : ℕ
 spindleSlot = mSlot 0
@@ -51,17 +57,17 @@ coolantSlot = mSlot 3
 
 -- P0 to P9 and D0 to D9
 abbrev pub pSlot : ℕ → ℕ
-pSlot index = 11 + index
+pSlot index = 13 + index
 
 abbrev pub dSlot : ℕ → ℕ
-dSlot index = 21 + index
+dSlot index = 23 + index
 
 abbrev pub lSlot : ℕ
-lSlot = 31
+lSlot = 33
 
 -- "G groups (001): 0 is 00 01 33 (kept) and 04 84 86 ..; 1 is 96 97; 2 is 94 95; 3 is 53 54 55; 5 is 56 to 59; 6 is 25 27"
 abbrev pub gSlot : ℕ → ℕ
-gSlot group = 32 + group
+gSlot group = 34 + group
 
 abbrev pub motionSlot : ℕ
 motionSlot = gSlot 0
@@ -84,6 +90,10 @@ steeringSlot = gSlot 6
 -- ---- rows of them
 abbrev pub pathSlots : List ℕ
 pathSlots = xSlot ∷ zSlot ∷ uSlot ∷ wSlot ∷ []
+
+-- 02: "I and K .. give the centre"
+abbrev pub centreSlots : List ℕ
+centreSlots = iSlot ∷ kSlot ∷ []
 
 -- so many numbers, one after the other
 abbrev pub numbersFrom : ℕ → ℕ → List ℕ

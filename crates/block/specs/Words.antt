@@ -7,7 +7,7 @@ use Prim.Native.Nat.{ℕ, _+_, _<_, _≤_}
 use lib.Dec.{eqb}
 use lib.IntN.{pos, natAbs}
 use lib.ListN.{set, replicate}
-use Rattle.letters.specs.Letters.{percent, letterD, letterF, letterG, letterL, letterM, letterN, letterO, letterP, letterS, letterT, letterU, letterW, letterX, letterZ}
+use Rattle.letters.specs.Letters.{percent, letterD, letterF, letterG, letterI, letterK, letterL, letterM, letterN, letterO, letterP, letterS, letterT, letterU, letterW, letterX, letterZ}
 use Rattle.addresses.specs.Words.{Words, word, ended, faulty, nextWord, lacksPoint, wordsFrom}
 use Rattle.addresses.specs.declared.Word.{Word}
 use Rattle.addresses.specs.declared.NextWord.{NextWord}
@@ -25,7 +25,7 @@ use Rattle.block.specs.declared.words.Rest.{Rest}
 use Rattle.block.specs.declared.words.ReadLine.{ReadLine}
 use Rattle.codes.specs.Codes.{gCode, mCode}
 use Rattle.acts.specs.Acting.{endsBy}
-use Rattle.block.specs.Slots.{slots, xSlot, zSlot, uSlot, wSlot, fSlot, sSlot, tSlot, mSlot, pSlot, dSlot, lSlot, gSlot}
+use Rattle.block.specs.Slots.{slots, xSlot, zSlot, uSlot, wSlot, iSlot, kSlot, fSlot, sSlot, tSlot, mSlot, pSlot, dSlot, lSlot, gSlot}
 
 -- the slot of a G or an M word: that of its group
 abbrev pub codeSlot : Code → (ℕ → ℕ) → Slot
@@ -44,6 +44,8 @@ slotOf w =
     (cond (eqb a letterZ) (At zSlot)
     (cond (eqb a letterU) (At uSlot)
     (cond (eqb a letterW) (At wSlot)
+    (cond (eqb a letterI) (At iSlot)
+    (cond (eqb a letterK) (At kSlot)
     (cond (eqb a letterF) (At fSlot)
     (cond (eqb a letterS) (At sSlot)
     (cond (eqb a letterT) (At tSlot)
@@ -52,7 +54,7 @@ slotOf w =
     (cond (eqb a letterD) (At (dSlot (w .index)))
     (cond (eqb a letterG) (codeSlot (gCode (numberIn w)) gSlot)
     (cond (eqb a letterM) (codeSlot (mCode (numberIn w)) mSlot)
-    (cond (eqb a letterN) Late Unknown))))))))))))
+    (cond (eqb a letterN) Late Unknown))))))))))))))
 
 abbrev pub SlotIn : Slot → Type 0
 SlotIn (At k) = k < slots

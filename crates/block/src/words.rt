@@ -11,8 +11,8 @@ ghost use Rattle.codes.specs.Codes.{gCode, mCode};
 ghost use Rattle.block.specs.Slots.{slots, mSlot, dSlot, gSlot, has, codeIn, gIn, mIn};
 ghost use Rattle.block.specs.Words.{longestLine, SlotIn, codeSlot, slotOf, noWords, isEnd, isProgramAddress, faultyRest, gather, headBy, headOf, startOf, StartIn, lineOf};
 
-// The slots of a block's words, and how many there are: X Z U W F S T, the groups of M, P and D by their indexes, L, and the groups of G.
-pub const SLOTS: usize = 40;
+// The slots of a block's words, and how many there are: X Z U W I K F S T, the groups of M, P and D by their indexes, L, and the groups of G.
+pub const SLOTS: usize = 42;
 
 pub const X: usize = 0;
 
@@ -22,14 +22,18 @@ pub const U: usize = 2;
 
 pub const W: usize = 3;
 
-pub const F: usize = 4;
+pub const I: usize = 4;
 
-pub const S: usize = 5;
+pub const K: usize = 5;
 
-pub const T: usize = 6;
+pub const F: usize = 6;
+
+pub const S: usize = 7;
+
+pub const T: usize = 8;
 
 // M03 M04 M05; M00 M17 M30; M08 M09
-const M: usize = 7;
+const M: usize = 9;
 
 pub const SPINDLE: usize = M + 0;
 
@@ -38,14 +42,14 @@ pub const FLOW: usize = M + 2;
 pub const COOLANT: usize = M + 3;
 
 // P0 and D0; the other indexes follow
-pub const P: usize = 11;
+pub const P: usize = 13;
 
-pub const D: usize = 21;
+pub const D: usize = 23;
 
-pub const L: usize = 31;
+pub const L: usize = 33;
 
-// G00 G01 G33 G04 G84 to G88; G96 G97; G94 G95; G53 to G55; G56 to G59; G25 G27
-const G: usize = 32;
+// G00 to G03 G33 G04 G84 to G88; G96 G97; G94 G95; G53 to G55; G56 to G59; G25 G27
+const G: usize = 34;
 
 pub const MOTION: usize = G + 0;
 
@@ -152,6 +156,8 @@ fn slot_of(w: Word) -> Slot
         b'Z' => Slot::At(Z),
         b'U' => Slot::At(U),
         b'W' => Slot::At(W),
+        b'I' => Slot::At(I),
+        b'K' => Slot::At(K),
         b'F' => Slot::At(F),
         b'S' => Slot::At(S),
         b'T' => Slot::At(T),

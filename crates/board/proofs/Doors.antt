@@ -18,13 +18,15 @@ use Rattle.interpreter.proofs.Whole.{none-begun}
 use Rattle.demands.specs.Demands.{Owed, OwedList, TableAfter, Each, EachFrom, EveryCycle, CutIn, Threads, ThreadsIn}
 use Rattle.demands.specs.Placed.{acceptedIn}
 use Rattle.demands.specs.Strokes.{Deepens, DeepensIn}
+use Rattle.demands.specs.Arcs.{ArcsOwed, ArcsOwedIn, Rounds, RoundsIn}
 use Rattle.demands.proofs.Holding.{none-owed, all-owed, demand-two}
 use Rattle.demands.proofs.Placed.{none-after, table-after}
 use Rattle.demands.proofs.Demands.{demand-three, thread-promise, demand-three-in-buffer, thread-promise-in-buffer}
 use Rattle.demands.proofs.Strokes.{depth-law, depth-law-in-buffer}
+use Rattle.demands.proofs.Arcs.{none-owed as no-arcs, none-owed-in as no-arcs-in, arc-promise, arc-promise-in-buffer, arcs-written, arcs-written-in-buffer}
 use Rattle.alarmed.proofs.Alone.{alarms-stand}
 use Rattle.settings.specs.Row.{unfit, settingsOf}
-use Rattle.board.specs.Door.{atDoor, answerAt, placesAt, bufferAt, Packed, acceptedAt, DemandOneAtDoor, DemandTwoAtDoor, inputAt, AlarmsStandAtDoor, taskAt, DemandThreeAtDoor, DemandThreeInBufferAtDoor, ThreadPromiseAtDoor, ThreadPromiseInBufferAtDoor, DepthLawAtDoor, DepthLawInBufferAtDoor, Fits}
+use Rattle.board.specs.Door.{atDoor, answerAt, placesAt, bufferAt, Packed, acceptedAt, DemandOneAtDoor, DemandTwoAtDoor, inputAt, AlarmsStandAtDoor, taskAt, DemandThreeAtDoor, DemandThreeInBufferAtDoor, ThreadPromiseAtDoor, ThreadPromiseInBufferAtDoor, DepthLawAtDoor, DepthLawInBufferAtDoor, ArcPromiseAtDoor, ArcPromiseInBufferAtDoor, ArcsWrittenAtDoor, ArcsWrittenInBufferAtDoor, Fits}
 
 -- ---- the numbers of an answer, as they stand in one
 pub packs : (a : Answer) (r : ℕ) → Fits a → numberOf a < 256 → r ≡ countOf a + 65_536 * (placeOf a + 65_536 * numberOf a) → Packed a r
@@ -137,6 +139,21 @@ module _ (tape : List ℕ) (table numbers : List ℤ) (places b : List ℕ) wher
   pub depth-law-in-buffer-at-door : DepthLawInBufferAtDoor tape table numbers (length places) b
   unfolding EachFrom
   depth-law-in-buffer-at-door = at-door (λ x. EachFrom (DeepensIn t (laidBy x b)) 0 (x .steps)) tt (depth-law-in-buffer tape table (settingsOf numbers) (length places) b)
+
+  pub arc-promise-at-door : ArcPromiseAtDoor tape table numbers (length places) (length b)
+  arc-promise-at-door = at-door (ArcsOwed (settingsOf numbers)) (no-arcs (settingsOf numbers) badSettings 0) (arc-promise tape table (settingsOf numbers) (length places) (length b))
+
+  pub arc-promise-in-buffer-at-door : ArcPromiseInBufferAtDoor tape table numbers (length places) b
+  arc-promise-in-buffer-at-door =
+      at-door (ArcsOwedIn (settingsOf numbers) b) (no-arcs-in (settingsOf numbers) b badSettings 0) (arc-promise-in-buffer tape table (settingsOf numbers) (length places) b)
+
+  pub arcs-written-at-door : ArcsWrittenAtDoor tape table numbers (length places) (length b)
+  unfolding Each
+  arcs-written-at-door = at-door (λ x. Each (Rounds t) (x .steps)) tt (arcs-written tape table (settingsOf numbers) (length places) (length b))
+
+  pub arcs-written-in-buffer-at-door : ArcsWrittenInBufferAtDoor tape table numbers (length places) b
+  unfolding EachFrom
+  arcs-written-in-buffer-at-door = at-door (λ x. EachFrom (RoundsIn t (laidBy x b)) 0 (x .steps)) tt (arcs-written-in-buffer tape table (settingsOf numbers) (length places) b)
 
   pub answer-fits : (set : Settings) {a : Answer} → a ≡ answerOf tape table set (length places) (length b) → Fits a
   answer-fits set {a} k =

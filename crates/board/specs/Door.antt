@@ -14,6 +14,7 @@ use Rattle.steps.specs.Steps.{Task}
 use Rattle.demands.specs.Demands.{Owed, OwedList, TableAfter, Each, EachFrom, EveryCycle, CutIn, Threads, ThreadsIn, task}
 use Rattle.demands.specs.Placed.{acceptedIn}
 use Rattle.demands.specs.Strokes.{Deepens, DeepensIn}
+use Rattle.demands.specs.Arcs.{ArcsOwed, ArcsOwedIn, Rounds, RoundsIn}
 use Rattle.tape.specs.Lines.{Text}
 use Rattle.alarmed.specs.Tests.{Input}
 use Rattle.alarmed.specs.Alarmed.{answered, AlarmsStand}
@@ -86,6 +87,20 @@ DepthLawAtDoor tape table numbers size bytes = Each (Deepens (taskAt tape table 
 abbrev pub DepthLawInBufferAtDoor : List ℕ → List ℤ → List ℤ → ℕ → List ℕ → Type 0
 DepthLawInBufferAtDoor tape table numbers size b =
     EachFrom (DeepensIn (taskAt tape table numbers size (length b)) (bufferAt tape table numbers size b)) 0 (atDoor tape table numbers size (length b) .steps)
+
+-- the promise of arcs, and that a block which asks for an arc writes it
+abbrev pub ArcPromiseAtDoor : List ℕ → List ℤ → List ℤ → ℕ → ℕ → Type 0
+ArcPromiseAtDoor tape table numbers size bytes = ArcsOwed (settingsOf numbers) (atDoor tape table numbers size bytes)
+
+abbrev pub ArcPromiseInBufferAtDoor : List ℕ → List ℤ → List ℤ → ℕ → List ℕ → Type 0
+ArcPromiseInBufferAtDoor tape table numbers size b = ArcsOwedIn (settingsOf numbers) b (atDoor tape table numbers size (length b))
+
+abbrev pub ArcsWrittenAtDoor : List ℕ → List ℤ → List ℤ → ℕ → ℕ → Type 0
+ArcsWrittenAtDoor tape table numbers size bytes = Each (Rounds (taskAt tape table numbers size bytes)) (atDoor tape table numbers size bytes .steps)
+
+abbrev pub ArcsWrittenInBufferAtDoor : List ℕ → List ℤ → List ℤ → ℕ → List ℕ → Type 0
+ArcsWrittenInBufferAtDoor tape table numbers size b =
+    EachFrom (RoundsIn (taskAt tape table numbers size (length b)) (bufferAt tape table numbers size b)) 0 (atDoor tape table numbers size (length b) .steps)
 
 -- ---- what is known of an answer before it is packed
 -- an answer whose place and count have 16 bits

@@ -1,7 +1,7 @@
 // Stored tapes with the listings that they must give, run through the board's door and compared: those of 01, of its readings and of manual 001, those of threads (02, request 1), of missing points
-// (request 3) and of drilling (request 9), those of the alarm card, and the examples.
+// (request 3), of drilling (request 9) and of arcs (request 4), those of the alarm card, and the examples.
 // A line for each: its name and `agrees`, or `DIFFERS at line N` of the listing.
-// The file `stdin` holds the first: a name, LF, lines of settings, the tape, byte 29, the listing, and byte 30; data/threads.cases, data/points.cases and data/drilling.cases hold the next in the same way. data/ALARMS.md is the card. Each line of the file `args` names an example:
+// The file `stdin` holds the first: a name, LF, lines of settings, the tape, byte 29, the listing, and byte 30; data/threads.cases, data/points.cases, data/drilling.cases and data/arcs.cases hold the next in the same way. data/ALARMS.md is the card. Each line of the file `args` names an example:
 // data/examples has its tape, its listing, and its settings where they are other ones than those of `listmoves`. How each is written down the crate `stored` knows.
 mod files;
 
@@ -145,6 +145,7 @@ fn show_all(all: &[u8], page: &[u8]) {
     show_file(b"threads.cases");
     show_file(b"points.cases");
     show_file(b"drilling.cases");
+    show_file(b"arcs.cases");
     show_long();
     show_card(page);
     show_examples();

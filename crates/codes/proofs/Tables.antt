@@ -85,46 +85,49 @@ module _ (n : ℕ) where
 
   pub cutting : 96 ≤ n → n < 98 → gCode n ≡ Of 1 (means.CuttingSpeed (eqb n 96))
   unfolding gCode
-  cutting l h = look-hit (take 9 gRows) (range 96 97 1 (λ k. means.CuttingSpeed (eqb k 96))) (drop 10 gRows) n (misses-both 5 (take 9 gRows) n (omega arith) (omega arith)) l (omega arith)
+  cutting l h = look-hit (take 11 gRows) (range 96 97 1 (λ k. means.CuttingSpeed (eqb k 96))) (drop 12 gRows) n (misses-both 6 (take 11 gRows) n (omega arith) (omega arith)) l (omega arith)
 
   pub revolution : 94 ≤ n → n < 96 → gCode n ≡ Of 2 (means.PerRevolution (eqb n 95))
   unfolding gCode
-  revolution l h = look-hit (take 10 gRows) (range 94 95 2 (λ k. means.PerRevolution (eqb k 95))) (drop 11 gRows) n (misses-both 5 (take 10 gRows) n (omega arith) (omega arith)) l (omega arith)
+  revolution l h = look-hit (take 12 gRows) (range 94 95 2 (λ k. means.PerRevolution (eqb k 95))) (drop 13 gRows) n (misses-both 6 (take 12 gRows) n (omega arith) (omega arith)) l (omega arith)
 
   pub shift-a : 53 ≤ n → n < 56 → (n ≡ 53 → ⊥) → gCode n ≡ Of 3 (means.Shift (1 + (n - 54)))
   unfolding gCode
   shift-a l h e =
-      look-hit (take 12 gRows) (range 54 55 3 (λ k. means.Shift (1 + (k - 54)))) (drop 13 gRows) n (misses-both 6 (take 12 gRows) n (omega arith) (omega arith)) (omega arith) (omega arith)
+      look-hit (take 14 gRows) (range 54 55 3 (λ k. means.Shift (1 + (k - 54)))) (drop 15 gRows) n (misses-both 7 (take 14 gRows) n (omega arith) (omega arith)) (omega arith) (omega arith)
 
   pub shift-b : 56 ≤ n → n < 60 → (n ≡ 56 → ⊥) → gCode n ≡ Of 5 (means.Shift (3 + (n - 57)))
   unfolding gCode
   shift-b l h e =
-      look-hit (take 14 gRows) (range 57 59 5 (λ k. means.Shift (3 + (k - 57)))) (drop 15 gRows) n (misses-both 7 (take 14 gRows) n (omega arith) (omega arith)) (omega arith) (omega arith)
+      look-hit (take 16 gRows) (range 57 59 5 (λ k. means.Shift (3 + (k - 57)))) (drop 17 gRows) n (misses-both 8 (take 16 gRows) n (omega arith) (omega arith)) (omega arith) (omega arith)
 
   -- `omega` takes few inequations at a time
-  low-1 : (n ≡ 0 → ⊥) → (n ≡ 1 → ⊥) → (n ≡ 33 → ⊥) → n < 53 → Misses n (take 3 gRows)
-  low-1 a b c h = omega arith
+  low : (n ≡ 0 → ⊥) → (n ≡ 1 → ⊥) → (n ≡ 2 → ⊥) → (n ≡ 3 → ⊥) → (n ≡ 4 → ⊥) → 5 ≤ n
+  low a b c d e = omega arith
 
-  low-2 : (n ≡ 4 → ⊥) → (n ≡ 25 → ⊥) → (n ≡ 27 → ⊥) → n < 53 → Misses n (drop 3 gRows)
-  low-2 a b c h = omega arith
+  low-1 : 5 ≤ n → (n ≡ 33 → ⊥) → n < 53 → Misses n (take 5 gRows)
+  low-1 l a h = omega arith
 
-  pub none-low : n < 53 → (n ≡ 0 → ⊥) → (n ≡ 1 → ⊥) → (n ≡ 33 → ⊥) → (n ≡ 4 → ⊥) → (n ≡ 25 → ⊥) → (n ≡ 27 → ⊥) → gCode n ≡ Unknown
+  low-2 : 5 ≤ n → (n ≡ 25 → ⊥) → (n ≡ 27 → ⊥) → n < 53 → Misses n (drop 5 gRows)
+  low-2 l a b h = omega arith
+
+  pub none-low : n < 53 → (n ≡ 0 → ⊥) → (n ≡ 1 → ⊥) → (n ≡ 2 → ⊥) → (n ≡ 3 → ⊥) → (n ≡ 33 → ⊥) → (n ≡ 4 → ⊥) → (n ≡ 25 → ⊥) → (n ≡ 27 → ⊥) → gCode n ≡ Unknown
   unfolding gCode
-  none-low h a b c d e f = look-none gRows n (misses-both 3 gRows n (low-1 a b c h) (low-2 d e f h))
+  none-low h a b c d e f g k = let l = low a b c d f in look-none gRows n (misses-both 5 gRows n (low-1 l e h) (low-2 l g k h))
 
-  middle-1 : 60 ≤ n → (n ≡ 84 → ⊥) → (n ≡ 85 → ⊥) → (n ≡ 86 → ⊥) → (n ≡ 87 → ⊥) → (n ≡ 88 → ⊥) → Misses n (take 9 gRows)
+  middle-1 : 60 ≤ n → (n ≡ 84 → ⊥) → (n ≡ 85 → ⊥) → (n ≡ 86 → ⊥) → (n ≡ 87 → ⊥) → (n ≡ 88 → ⊥) → Misses n (take 11 gRows)
   middle-1 l a b c d e = omega arith
 
-  middle-2 : 60 ≤ n → n < 94 → (n ≡ 71 → ⊥) → Misses n (drop 9 gRows)
+  middle-2 : 60 ≤ n → n < 94 → (n ≡ 71 → ⊥) → Misses n (drop 11 gRows)
   middle-2 l h a = omega arith
 
   pub none-middle : 60 ≤ n → n < 94 → (n ≡ 84 → ⊥) → (n ≡ 85 → ⊥) → (n ≡ 86 → ⊥) → (n ≡ 87 → ⊥) → (n ≡ 88 → ⊥) → (n ≡ 71 → ⊥) → gCode n ≡ Unknown
   unfolding gCode
-  none-middle l h a b c d e f = look-none gRows n (misses-both 9 gRows n (middle-1 l a b c d e) (middle-2 l h f))
+  none-middle l h a b c d e f = look-none gRows n (misses-both 11 gRows n (middle-1 l a b c d e) (middle-2 l h f))
 
   pub none-high : 98 ≤ n → gCode n ≡ Unknown
   unfolding gCode
-  none-high l = look-none gRows n (misses-both 9 gRows n (omega arith) (omega arith))
+  none-high l = look-none gRows n (misses-both 11 gRows n (omega arith) (omega arith))
 
   -- ---- M numbers
   pub spindle : 3 ≤ n → n < 6 → mCode n ≡ Of 0 means.Spindle

@@ -1,5 +1,5 @@
 -- 01: "G groups (001): 0 is 00 01 33 (kept) and 04 84 86 (that block only; the kept one stays); 1 is 96 97; 2 is 94 95; 3 is 53 54 55; 5 is 56 to 59; 6 is
--- 25 27; 7 is 71. M groups: 0 is 03 04 05; 3 is 08 09; 2 is 00 17 30." 02: "Threads, G85" and "Drilling, G87 and G88", of group 0 and for their block only. "G54 and G55 call shifts 1 and 2, G57 to G59 shifts 3 to 5 (001); G53 and G56 cancel."
+-- 25 27; 7 is 71. M groups: 0 is 03 04 05; 3 is 08 09; 2 is 00 17 30." 02: "Threads, G85" and "Drilling, G87 and G88", of group 0 and for their block only; "G02 and G03 are kept". "G54 and G55 call shifts 1 and 2, G57 to G59 shifts 3 to 5 (001); G53 and G56 cancel."
 use mathlib.Core.Bool.{cond, _&&_}
 use mathlib.Core.List.{List, [], _∷_}
 use Prim.Native.Nat.{ℕ, _+_, _-_}
@@ -30,7 +30,13 @@ abbrev pub look : List Row → ℕ → Code
 look [] n = Unknown
 look (r ∷ rs) n = cond (leb (r .low) n && leb n (r .high)) (Of (r .group) (r .meaning n)) (look rs n)
 
--- the numbers of the cycles of which a promise speaks
+-- the numbers of the arcs and of the cycles of which a promise speaks
+abbrev pub clockwiseNumber : ℕ
+clockwiseNumber = 2
+
+abbrev pub counterclockwiseNumber : ℕ
+counterclockwiseNumber = 3
+
 abbrev pub turningNumber : ℕ
 turningNumber = 84
 
@@ -50,6 +56,8 @@ abbrev pub gRows : List Row
 gRows =
     one 0 0 (means.Moves motion.Rapid)
     ∷ one 1 0 (means.Moves motion.Feed)
+    ∷ one clockwiseNumber 0 (means.Moves motion.Clockwise)
+    ∷ one counterclockwiseNumber 0 (means.Moves motion.Counterclockwise)
     ∷ one 33 0 (means.Moves motion.Thread)
     ∷ one 4 0 (means.Moves motion.Dwell)
     ∷ one turningNumber 0 (means.Moves motion.Turning)

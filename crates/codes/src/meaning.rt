@@ -3,10 +3,13 @@
 ghost use mathlib.Core.Path.{_≡_};
 ghost use Rattle.codes.specs.Codes.{gCode, mCode};
 
-// Group 0 of G: the first three are kept, the others hold for their block only.
+// Group 0 of G: the first five are kept, the others hold for their block only.
 pub enum Motion {
     Rapid,
     Feed,
+    // the two arcs: G02, G03
+    Clockwise,
+    Counterclockwise,
     Thread,
     Dwell,
     Turning,
@@ -59,6 +62,8 @@ pub fn g_code(n: u32) -> Code
     match n {
         0 => Code::Of(0, Meaning::Moves(Motion::Rapid)),
         1 => Code::Of(0, Meaning::Moves(Motion::Feed)),
+        2 => Code::Of(0, Meaning::Moves(Motion::Clockwise)),
+        3 => Code::Of(0, Meaning::Moves(Motion::Counterclockwise)),
         33 => Code::Of(0, Meaning::Moves(Motion::Thread)),
         4 => Code::Of(0, Meaning::Moves(Motion::Dwell)),
         84 => Code::Of(0, Meaning::Moves(Motion::Turning)),

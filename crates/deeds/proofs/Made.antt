@@ -1,7 +1,7 @@
 -- What is known of the deed that a block gives: a cycle starts where the axes stand, and its numbers fit where those of the sending do. One clause for each motion.
 -- Assumes nothing.
 use mathlib.Core.Path.{_≡_, refl}
-use mathlib.Core.Bool.{Bool, true, false, cond}
+use mathlib.Core.Bool.{Bool, true, false, cond, _||_}
 use Prim.Native.Nat.{ℕ, _≤_, _<_, _^_}
 use native.Mathlib.Omega.{arith}
 use lib.IntN.{natAbs, _-ℤ_}
@@ -16,6 +16,8 @@ use Rattle.block.specs.declared.words.Block.{Block}
 use Rattle.block.specs.Slots.{has, dSlot}
 use Rattle.acts.specs.declared.acting.Kept.{Kept}
 use Rattle.acts.specs.declared.acting.Kept.the-variants as kept
+use Rattle.arcs.specs.Arcs.{arcOf}
+use Rattle.arcs.proofs.Ranges.{in-reach, limits-in-reach, centre-in-x, centre-in-z}
 use Rattle.axes.specs.Goes.{rapidTo}
 use Rattle.axes.specs.declared.axis.Axis.{Axis}
 use Rattle.depths.specs.Depths.{greatestD}
@@ -27,11 +29,10 @@ use Rattle.cycles.specs.Known.{home}
 use Rattle.cycles.specs.declared.Cycle as cycles
 use Rattle.cycles.specs.declared.Cycle.the-variants.{Turning, Threading, Grooving, Drilling}
 use Rattle.deeds.specs.declared.deed.Deed.{Deed}
-use Rattle.deeds.specs.declared.deed.Deed.the-variants.{Nothing, Nowhere, Dwell, Straight, Cycle}
+use Rattle.deeds.specs.declared.deed.Deed.the-variants.{Nothing, Nowhere, Dwell, Straight, Round, Cycle}
 use Rattle.deeds.specs.declared.deed.Sending.{Sending}
-use Rattle.deeds.specs.Deed.{hasPath, isFacing, dWord, turningOf, xBare, zBare, emptyCuts, threadOf, grooveOf, boreOf, straightIf, moveOf, deedOf}
-use Rattle.deeds.specs.Known.{Small}
-use Rattle.deeds.specs.Known.{Known}
+use Rattle.deeds.specs.Deed.{hasPath, hasCentre, isFacing, dWord, turningOf, xBare, zBare, emptyCuts, threadOf, grooveOf, boreOf, straightIf, startSpot, endSpot, centreWords, roundOf, roundIf, moveOf, deedOf}
+use Rattle.deeds.specs.Known.{Small, Centred, Curved, Known}
 
 -- what is known of a sending
 pub record Sends (s : Sending) : Type 0 where
@@ -50,12 +51,13 @@ pub record Sends (s : Sending) : Type 0 where
 abbrev pub At : Record → Sending → Type 0
 At r s = (r .x ≡ s .x) × (r .z ≡ s .z)
 
--- a dwell is there, a cycle starts there, and a straight move leaves the axes where it goes
+-- a dwell is there, an arc and a cycle start there, and a straight move leaves the axes where it goes
 abbrev pub Starts : Deed → Sending → Type 0
 Starts Nothing s = Unit {0}
 Starts Nowhere s = Unit {0}
 Starts (Dwell r) s = At r s
 Starts (Straight m) s = Moves (m .goes)
+Starts (Round r) s = (r .arc .start .x ≡ s .x) × (r .arc .start .z ≡ s .z)
 Starts (Cycle c) s = At (home c) s
 
 -- what holds of both holds of what a test picks
@@ -90,14 +92,20 @@ module _ (b : Block) (s : Sending) where
   unfolding boreOf
   bore-starts full = (refl, refl)
 
-  straight-starts : (g : Bool) (n : ℕ) (r : Record) → Moves r → Starts (straightIf (hasPath b) g n r) s
+  straight-starts : (g : Bool) (n : ℕ) (r : Record) → Moves r → Starts (straightIf b g n r) s
   unfolding straightIf
-  straight-starts g n r h = either-of (λ (d : Deed). Starts d s) (hasPath b) _ _ h tt
+  straight-starts g n r h = either-of (λ (d : Deed). Starts d s) (hasCentre b) _ _ tt (either-of (λ (d : Deed). Starts d s) (hasPath b) _ _ h tt)
+
+  round-starts : (clockwise : Bool) → Starts (roundIf clockwise b s) s
+  unfolding roundIf roundOf arcOf
+  round-starts clockwise = either-of (λ (d : Deed). Starts d s) (hasPath b) _ _ (refl, refl) tt
 
   pub starts : (k : Kept) → Starts (deedOf k b s) s
   unfolding deedOf moveOf
   starts (kept.Of motion.Rapid) = straight-starts true 0 (rapid (s .«x_target») (s .«z_target»)) refl
   starts (kept.Of motion.Feed) = straight-starts false 1 (feed (s .«x_target») (s .«z_target») (s .f) (s .g95)) refl
+  starts (kept.Of motion.Clockwise) = round-starts true
+  starts (kept.Of motion.Counterclockwise) = round-starts false
   starts (kept.Of motion.Thread) = straight-starts false 10 (thread (s .«x_target») (s .«z_target») (s .f)) refl
   starts (kept.Of motion.Dwell) = (refl, refl)
   starts (kept.Of motion.Turning) = turning-starts
@@ -105,7 +113,7 @@ module _ (b : Block) (s : Sending) where
   starts (kept.Of motion.Grooving) = groove-starts
   starts (kept.Of motion.ChipBreaking) = bore-starts false
   starts (kept.Of motion.Redrawing) = bore-starts true
-  starts kept.Nothing = either-of (λ (d : Deed). Starts d s) (hasPath b) Nowhere Nothing tt tt
+  starts kept.Nothing = either-of (λ (d : Deed). Starts d s) (hasPath b || hasCentre b) Nowhere Nothing tt tt
 
 -- ---- that its numbers fit
 module _ (b : Block) (s : Sending) (h : Sends s) where
@@ -142,20 +150,38 @@ module _ (b : Block) (s : Sending) (h : Sends s) where
   unfolding boreOf
   bore-known full t = (h .x, (h .z, h .z-target), h .f, t)
 
-  straight-known : (g : Bool) (n : ℕ) (r : Record) → Fitting r → Known (straightIf (hasPath b) g n r)
+  straight-known : (g : Bool) (n : ℕ) (r : Record) → Fitting r → Known (straightIf b g n r)
   unfolding straightIf
-  straight-known g n r f = either-of Known (hasPath b) _ _ f tt
+  straight-known g n r f = either-of Known (hasCentre b) _ _ tt (either-of Known (hasPath b) _ _ f tt)
 
-  pub known : Small b → (k : Kept) → Known (deedOf k b s)
+  curved : Centred b s → (clockwise : Bool) → Curved (roundOf clockwise b s)
+  unfolding roundOf arcOf
+  curved c clockwise = record {
+    reach = in-reach clockwise (startSpot s) (endSpot s) (centreWords b) c (h .near-x) (h .near-z);
+    limits = limits-in-reach clockwise (startSpot s) (endSpot s) (centreWords b) c;
+    centreX = centre-in-x clockwise (startSpot s) (endSpot s) (centreWords b) c;
+    centreZ = centre-in-z clockwise (startSpot s) (endSpot s) (centreWords b) c;
+    endX = h .x-target;
+    endZ = h .z-target;
+    f = h .f;
+  }
+
+  round-known : Centred b s → (clockwise : Bool) → Known (roundIf clockwise b s)
+  unfolding roundIf
+  round-known c clockwise = either-of Known (hasPath b) _ _ (curved c clockwise) tt
+
+  pub known : Small b → Centred b s → (k : Kept) → Known (deedOf k b s)
   unfolding deedOf moveOf
-  known w (kept.Of motion.Rapid) = straight-known true 0 (rapid (s .«x_target») (s .«z_target»)) (record { kind = omega arith; flags = omega arith; x = h .x-target; z = h .z-target; value = omega arith })
-  known w (kept.Of motion.Feed) =
+  known w c (kept.Of motion.Rapid) = straight-known true 0 (rapid (s .«x_target») (s .«z_target»)) (record { kind = omega arith; flags = omega arith; x = h .x-target; z = h .z-target; value = omega arith })
+  known w c (kept.Of motion.Feed) =
       straight-known false 1 (feed (s .«x_target») (s .«z_target») (s .f) (s .g95)) (record { kind = omega arith; flags = flag (s .g95); x = h .x-target; z = h .z-target; value = h .f })
-  known w (kept.Of motion.Thread) = straight-known false 10 (thread (s .«x_target») (s .«z_target») (s .f)) (record { kind = omega arith; flags = omega arith; x = h .x-target; z = h .z-target; value = h .f })
-  known w (kept.Of motion.Dwell) = record { kind = omega arith; flags = omega arith; x = h .x; z = h .z; value = omega (arith, w .each 4 (omega arith)) }
-  known w (kept.Of motion.Turning) = turning-known
-  known w (kept.Of motion.Threading) = thread-known w
-  known w (kept.Of motion.Grooving) = groove-known (omega (arith, w .each 4 (omega arith)))
-  known w (kept.Of motion.ChipBreaking) = bore-known false (omega (arith, w .each 4 (omega arith)))
-  known w (kept.Of motion.Redrawing) = bore-known true (omega (arith, w .each 4 (omega arith)))
-  known w kept.Nothing = either-of Known (hasPath b) Nowhere Nothing tt tt
+  known w c (kept.Of motion.Clockwise) = round-known c true
+  known w c (kept.Of motion.Counterclockwise) = round-known c false
+  known w c (kept.Of motion.Thread) = straight-known false 10 (thread (s .«x_target») (s .«z_target») (s .f)) (record { kind = omega arith; flags = omega arith; x = h .x-target; z = h .z-target; value = h .f })
+  known w c (kept.Of motion.Dwell) = record { kind = omega arith; flags = omega arith; x = h .x; z = h .z; value = omega (arith, w .each 4 (omega arith)) }
+  known w c (kept.Of motion.Turning) = turning-known
+  known w c (kept.Of motion.Threading) = thread-known w
+  known w c (kept.Of motion.Grooving) = groove-known (omega (arith, w .each 4 (omega arith)))
+  known w c (kept.Of motion.ChipBreaking) = bore-known false (omega (arith, w .each 4 (omega arith)))
+  known w c (kept.Of motion.Redrawing) = bore-known true (omega (arith, w .each 4 (omega arith)))
+  known w c kept.Nothing = either-of Known (hasPath b || hasCentre b) Nowhere Nothing tt tt

@@ -5,15 +5,20 @@
 -- 2 x D5, overlap 200, depth piece D3, single retract."
 -- 02, G85: "(word order as G84) .. D6 is the depth per side, F the pitch. D7 counts as bits .. missing is 0. .. Empty cuts repeat the last pass D4 times, else as a new setting says".
 -- 02, G87 and G88: "Z or W is the target; the first bite is D3, each next one the former x (100 - D5) / 100 .. not under D6 .. missing D5 and D6 are 0. G87 draws back by the retract .. D4 dwells at the target".
+-- 02, G02 and G03: "I and K, numbers like X, give the centre from the start, per side, missing is 0 .. G02 and G03 are kept, need F and want a path word as G01 does .. I or K .. under another kept one or none in 15".
 use mathlib.Core.Bool.{Bool, true, false, cond, _||_}
 use Prim.Native.Nat.{ℕ, _+_, _*_}
 use lib.Dec.{ltb}
 use lib.ListN.{getD}
-use Rattle.block.specs.Slots.{has, xSlot, zSlot, uSlot, wSlot, dSlot, codeIn}
+use Rattle.block.specs.Slots.{has, xSlot, zSlot, uSlot, wSlot, iSlot, kSlot, dSlot, codeIn}
 use Rattle.codes.specs.declared.meaning.Motion.{Motion}
 use Rattle.codes.specs.declared.meaning.Motion.the-variants as motion
 use Rattle.block.specs.declared.words.Block.{Block}
+use Rattle.state.specs.Target.{wordIn}
 use Rattle.axes.specs.declared.axis.Axis.{Axis}
+use Rattle.arcs.specs.Arcs.{arcOf}
+use Rattle.arrows.specs.declared.arrow.Spot.{Spot}
+use Rattle.arcs.specs.declared.arc.CentreWords.{CentreWords}
 use Rattle.grooving.specs.declared.groove.Groove.{Groove}
 use Rattle.grooving.specs.declared.groove.Way.{Way}
 use Rattle.drilling.specs.declared.bore.Bore.{Bore}
@@ -28,11 +33,16 @@ use Rattle.cycles.specs.Feeds.{leastOfFeed, leastOfPitch}
 use Rattle.cycles.specs.declared.Cycle.the-variants as cycle
 use Rattle.deeds.specs.declared.deed.Deed.{Deed}
 use Rattle.deeds.specs.declared.deed.Deed.the-variants as deed
+use Rattle.deeds.specs.declared.deed.Round.{Round}
 use Rattle.deeds.specs.declared.deed.Sending.{Sending}
 
 -- a path word: X U Z W
 unfoldable pub hasPath : Block → Bool
 hasPath b = (has b xSlot || has b uSlot) || (has b zSlot || has b wSlot)
+
+-- a word of the centre: I K
+unfoldable pub hasCentre : Block → Bool
+hasCentre b = has b iSlot || has b kSlot
 
 -- where the word of an axis stands: that of X or U, and that of Z or W; a block has one of each at most, and the place of the other is 0
 abbrev pub placeOn : Block → ℕ → ℕ
@@ -120,15 +130,35 @@ boreOf full b s = record {
   g95 = s .g95;
 }
 
--- a straight move, where there is a path word: whether it is a G00, the least F that it takes (0 where none is asked for), and its record
-unfoldable pub straightIf : Bool → Bool → ℕ → Record → Deed
-straightIf path g00 least r = cond path (deed.Straight (record { rapid = g00; least = least; goes = r })) deed.Nothing
+-- a straight move, where there is a path word: whether it is a G00, the least F that it takes (0 where none is asked for), and its record. 02: "I or K .. under another kept one .. in 15"
+unfoldable pub straightIf : Block → Bool → ℕ → Record → Deed
+straightIf b g00 least r = cond (hasCentre b) deed.Nowhere (cond (hasPath b) (deed.Straight (record { rapid = g00; least = least; goes = r })) deed.Nothing)
+
+-- where the axes stand, where the block sends them, and its I and K
+abbrev pub startSpot : Sending → Spot
+startSpot s = record { x = s .x; z = s .z }
+
+abbrev pub endSpot : Sending → Spot
+endSpot s = record { x = s .«x_target»; z = s .«z_target» }
+
+abbrev pub centreWords : Block → CentreWords
+centreWords b = record { i = wordIn b iSlot; k = wordIn b kSlot }
+
+-- G02, and G03 where it is not clockwise, to the block's targets: "I and K .. give the centre from the start, per side, missing is 0"
+unfoldable pub roundOf : Bool → Block → Sending → Round
+roundOf clockwise b s = record { arc = arcOf clockwise (startSpot s) (endSpot s) (centreWords b); f = s .f; g95 = s .g95 }
+
+-- "want a path word as G01 does"
+unfoldable pub roundIf : Bool → Block → Sending → Deed
+roundIf clockwise b s = cond (hasPath b) (deed.Round (roundOf clockwise b s)) deed.Nothing
 
 -- the deed of a motion; "Without a path word G00, G01 and G33 make no move"; "A move by G01 .. needs 1 to 9999, by G33 10 to 9999"
 unfoldable pub moveOf : Motion → Block → Sending → Deed
-moveOf motion.Rapid b s = straightIf (hasPath b) true 0 (rapid (s .«x_target») (s .«z_target»))
-moveOf motion.Feed b s = straightIf (hasPath b) false leastOfFeed (feed (s .«x_target») (s .«z_target») (s .f) (s .g95))
-moveOf motion.Thread b s = straightIf (hasPath b) false leastOfPitch (thread (s .«x_target») (s .«z_target») (s .f))
+moveOf motion.Rapid b s = straightIf b true 0 (rapid (s .«x_target») (s .«z_target»))
+moveOf motion.Feed b s = straightIf b false leastOfFeed (feed (s .«x_target») (s .«z_target») (s .f) (s .g95))
+moveOf motion.Clockwise b s = roundIf true b s
+moveOf motion.Counterclockwise b s = roundIf false b s
+moveOf motion.Thread b s = straightIf b false leastOfPitch (thread (s .«x_target») (s .«z_target») (s .f))
 moveOf motion.Dwell b s = deed.Dwell (dwell (s .x) (s .z) (dWord b 4))
 moveOf motion.Turning b s = deed.Cycle (cycle.Turning (turningOf b s))
 moveOf motion.Threading b s = deed.Cycle (cycle.Threading (threadOf b s))
@@ -136,7 +166,7 @@ moveOf motion.Grooving b s = deed.Cycle (cycle.Grooving (grooveOf b s))
 moveOf motion.ChipBreaking b s = deed.Cycle (cycle.Drilling (boreOf false b s))
 moveOf motion.Redrawing b s = deed.Cycle (cycle.Drilling (boreOf true b s))
 
--- the deed of a block, of its own motion (`blockMotion`) and not of the one it leaves kept
+-- the deed of a block, of its own motion (`blockMotion`) and not of the one it leaves kept; "I or K .. under .. none in 15"
 unfoldable pub deedOf : Kept → Block → Sending → Deed
 deedOf (kept.Of m) b s = moveOf m b s
-deedOf kept.Nothing b s = cond (hasPath b) deed.Nowhere deed.Nothing
+deedOf kept.Nothing b s = cond (hasPath b || hasCentre b) deed.Nowhere deed.Nothing

@@ -1,15 +1,16 @@
--- DEMAND 3'S OWN WORDS, and those of the promise of threads: the cycle that a G84 block asks for, and the thread that a G85 block asks for, from the words that apply in it, the offset in force, and the state after its own G, T and F words and before its move: the axes
--- stand there where they stood before the block. Nothing here is cited by what says how a G84 or a G85 is done, nor cites it (`turningOf`, `threadOf`, `targetX`). That it is done so is proved: proofs/Wanted.antt.
+-- DEMAND 3'S OWN WORDS, and those of the promises of threads and of arcs: the cycle that a G84 block asks for, the thread that a G85 block asks for, and the arc that a block asks for under G02 or G03, from the words that apply in it, the offset in force, and the state after its own G, T and F words and before its move: the axes
+-- stand there where they stood before the block. Nothing here is cited by what says how a G84, a G85 or an arc is done, nor cites it (`turningOf`, `threadOf`, `roundOf`, `targetX`). That it is done so is proved: proofs/Wanted.antt.
 use mathlib.Core.Bool.{Bool, true, false, cond}
 use Prim.Native.Nat.{ℕ, _+_, _*_}
 use lib.Dec.{ltb}
 use lib.IntN.{ℤ, pos, natAbs, _+ℤ_, _*ℤ_}
 use lib.ListN.{getD}
-use Rattle.block.specs.Slots.{has, xSlot, zSlot, uSlot, wSlot, dSlot}
+use Rattle.block.specs.Slots.{has, xSlot, zSlot, uSlot, wSlot, iSlot, kSlot, dSlot}
 use Rattle.block.specs.declared.words.Block.{Block}
 use Rattle.state.specs.declared.modal.State.{State}
 use Rattle.state.specs.declared.target.Pair.{Pair}
 use Rattle.axes.specs.declared.axis.Axis.{Axis}
+use Rattle.arcs.specs.declared.arc.Arc.{Arc}
 use Rattle.turning.specs.declared.cycle.Turning.{Turning}
 use Rattle.threading.specs.Bits.{isNominal, ruleOf}
 use Rattle.threading.specs.declared.thread.Thread.{Thread}
@@ -77,4 +78,13 @@ threadWanted b s offset setting = record {
   d6 = dNumber b 6;
   empty = cond (has b (dSlot 4)) (dNumber b 4) setting;
   pitch = s .f;
+}
+
+-- ---- 02, G02 and G03: "I and K, numbers like X, give the centre from the start, per side, missing is 0": on X, which is a diameter, I counts twice; no offset is in it
+unfoldable pub arcWanted : Bool → Block → State → Pair → Arc
+arcWanted clockwise b s offset = record {
+  clockwise = clockwise;
+  start = record { x = s .x; z = s .z };
+  end = record { x = xTargetWanted b s offset; z = zTargetWanted b s offset };
+  centre = record { x = s .x +ℤ pos 2 *ℤ wordNumber b iSlot; z = s .z +ℤ wordNumber b kSlot };
 }

@@ -1,7 +1,10 @@
 // The deed of a block, and the cycles as their words give them: a cycle's D words and retract that count on a diameter are scaled here, and nowhere else.
 // (01, "G84": "d = 2 x D3 (D3 is per side)"; 02: "the X allowance is 2 x D0"; "G86": "2 x D3", "twice the retract", facing "tool width 2 x D5, overlap 200, depth piece D3, single retract".
-// A thread's depths are per side, and its cycle doubles them.)
+// A thread's depths are per side, and its cycle doubles them. 02: "I and K, numbers like X, give the centre from the start, per side".)
 use acts::acting::Kept;
+use arcs::arc::Arc;
+use arcs::arc::CentreWords;
+use arrows::arrow::Spot;
 use axes::axis::Axis;
 use block::words::Block;
 use codes::meaning::Motion;
@@ -15,16 +18,17 @@ use turning::cycle::Turning;
 ghost use mathlib.Core.Path.{_≡_};
 ghost use Prim.Native.Nat.{_+_, _<_};
 ghost use Rattle.block.specs.Slots.{dSlot, codeIn};
-ghost use Rattle.deeds.specs.Deed.{hasPath, isFacing, turningOf, emptyCuts, threadOf, grooveOf, boreOf, straightIf, moveOf, deedOf};
-ghost use Rattle.deeds.specs.Known.{Small};
+ghost use Rattle.deeds.specs.Deed.{hasPath, hasCentre, isFacing, turningOf, emptyCuts, threadOf, grooveOf, boreOf, straightIf, roundOf, roundIf, moveOf, deedOf};
+ghost use Rattle.deeds.specs.Known.{Small, Centred};
 
 pub enum Deed {
     // no move and no dwell
     Nothing,
-    // a path word with no motion function (alarm 15)
+    // a path word, or I or K, with no motion function, or I or K with a kept one that is no arc (alarm 15)
     Nowhere,
     Dwell(Record),
     Straight(Straight),
+    Round(Round),
     Cycle(Cycle),
 }
 
@@ -33,6 +37,13 @@ pub struct Straight {
     pub rapid: bool,
     pub least: u32,
     pub goes: Record,
+}
+
+// A G02 or a G03.
+pub struct Round {
+    pub arc: Arc,
+    pub f: u32,
+    pub g95: bool,
 }
 
 // Where the axes stand and where the block sends them, the feed in force, and the retract and the empty cuts of the settings.
@@ -57,6 +68,13 @@ fn has_path(b: Block) -> bool
     let x = block::words::has(b, block::words::X) | block::words::has(b, block::words::U);
     let z = block::words::has(b, block::words::Z) | block::words::has(b, block::words::W);
     x | z
+}
+
+// Whether the block has I or K.
+fn has_centre(b: Block) -> bool
+    ensures { λ r. ⌜ r ≡ hasCentre b ⌝ }
+{
+    block::words::has(b, block::words::I) | block::words::has(b, block::words::K)
 }
 
 // "X or U before Z or W is longitudinal, else facing; the order is that of the words that apply". One word of each axis stands there (alarm 9 has seen to it), so that the other
@@ -247,32 +265,68 @@ fn bore_of(full: bool, b: Block, s: Sending) -> Bore
     }
 }
 
-// A straight move, where the block has a path word.
-fn straight_if(path: bool, rapid: bool, least: u32, goes: Record) -> Deed
-    ensures { λ r. ⌜ r ≡ straightIf path rapid least goes ⌝ }
+// A straight move, where the block has a path word. I and K are no words of it.
+fn straight_if(b: Block, rapid: bool, least: u32, goes: Record) -> Deed
+    ensures { λ r. ⌜ r ≡ straightIf b rapid least goes ⌝ }
 {
-    if path {
+    if has_centre(b) {
+        return Deed::Nowhere;
+    }
+    if has_path(b) {
         return Deed::Straight(Straight { rapid, least, goes });
+    }
+    Deed::Nothing
+}
+
+// The arc of a block, from where the axes stand to its targets.
+fn round_of(clockwise: bool, b: Block, s: Sending) -> Round
+    requires { ⌜ Centred b s ⌝ }
+    ensures { λ r. ⌜ r ≡ roundOf clockwise b s ⌝ }
+{
+    let start = Spot { x: s.x, z: s.z };
+    let end = Spot {
+        x: s.x_target,
+        z: s.z_target,
+    };
+    let words = CentreWords {
+        i: b.value[block::words::I],
+        k: b.value[block::words::K],
+    };
+    Round {
+        arc: arcs::arc::arc_of(clockwise, start, end, words),
+        f: s.f,
+        g95: s.g95,
+    }
+}
+
+// A G02 or a G03, where the block has a path word.
+fn round_if(clockwise: bool, b: Block, s: Sending) -> Deed
+    requires { ⌜ Centred b s ⌝ }
+    ensures { λ r. ⌜ r ≡ roundIf clockwise b s ⌝ }
+{
+    if has_path(b) {
+        return Deed::Round(round_of(clockwise, b, s));
     }
     Deed::Nothing
 }
 
 // The deed of a block whose motion is m.
 fn move_of(m: Motion, b: Block, s: Sending) -> Deed
-    requires { ⌜ Small b × (s .retract < 32_768) ⌝ }
+    requires { ⌜ Small b × Centred b s × (s .retract < 32_768) ⌝ }
     ensures { λ r. ⌜ r ≡ moveOf m b s ⌝ }
 {
-    let path = has_path(b);
     match m {
-        Motion::Rapid => straight_if(path, true, 0, Record::rapid(s.x_target, s.z_target)),
+        Motion::Rapid => straight_if(b, true, 0, Record::rapid(s.x_target, s.z_target)),
         Motion::Feed => straight_if(
-            path,
+            b,
             false,
             cycles::LEAST_FEED,
             Record::feed(s.x_target, s.z_target, s.f, s.g95),
         ),
+        Motion::Clockwise => round_if(true, b, s),
+        Motion::Counterclockwise => round_if(false, b, s),
         Motion::Thread => straight_if(
-            path,
+            b,
             false,
             cycles::LEAST_PITCH,
             Record::thread(s.x_target, s.z_target, s.f),
@@ -288,13 +342,13 @@ fn move_of(m: Motion, b: Block, s: Sending) -> Deed
 
 // The deed of a block.
 pub fn deed_of(motion: Kept, b: Block, s: Sending) -> Deed
-    requires { ⌜ Small b × (s .retract < 32_768) ⌝ }
+    requires { ⌜ Small b × Centred b s × (s .retract < 32_768) ⌝ }
     ensures { λ r. ⌜ r ≡ deedOf motion b s ⌝ }
 {
     match motion {
         Kept::Of(m) => move_of(m, b, s),
         Kept::Nothing => {
-            if has_path(b) {
+            if has_path(b) | has_centre(b) {
                 return Deed::Nowhere;
             }
             Deed::Nothing

@@ -195,4 +195,4 @@ module _ (P : Task → State → Block → List Record → Type 0)
   pub every-read : (tape : List ℕ) (table : List ℤ) (set : Settings) (size : ℕ) (b : List ℕ) → Shown (task tape table set size (length b)) b (interpretation tape table set size (length b))
   every-read tape table set size b =
       every-result (λ t. Shown t b) tape table set size (length b) (λ t alarm place _ _ _. none-shown t b alarm place)
-      (λ h _ k first end p on. run-shown b h (taskOf (take end tape) table (withPoints false set) first (length b)) (k .offsets) (k .range) (start-sound (set .x) (set .z) (k .starts .x) (k .starts .z)) (mainAt set p) on)
+      (λ h _ _ k first end p on. run-shown b h (taskOf (take end tape) table (withPoints false set) first (length b)) (k .offsets) (k .range) (start-sound (set .x) (set .z) (k .starts .x) (k .starts .z)) (mainAt set p) on)

@@ -75,6 +75,7 @@ done-feed s deed.Nothing = refl
 done-feed s deed.Nowhere = refl
 done-feed s (deed.Dwell r) = refl
 done-feed s (deed.Straight m) = refl
+done-feed s (deed.Round r) = refl
 done-feed s (deed.Cycle c) = refl
 
 -- ---- the records of a block

@@ -195,7 +195,7 @@ module _ (tape : List ℕ) (table : List ℤ) (set : Settings) (size : ℕ) (b :
   shown : Shown (set .points) (length tape) b (interpretation tape table set size (length b))
   shown =
       every-result (λ _. Shown (set .points) (length tape) b) tape table set size (length b) (λ _ alarm place some on near. none-shown (set .points) (length tape) b alarm place some on near)
-      (λ h near k first end p on.
+      (λ h near _ k first end p on.
       run-shown (set .points) (length tape) b h (taskOf (take end tape) table (withPoints false set) first (length b)) (cut-short end tape) near refl (k .offsets) (k .range)
       (start-sound (set .x) (set .z) (k .starts .x) (k .starts .z)) (mainAt set p) on)
 

@@ -15,3 +15,5 @@ pub mod Holding
 pub mod Standing
 pub mod Points
 pub mod Strokes
+pub mod DeedKinds
+pub mod Arcs

@@ -68,18 +68,18 @@ read-on points size tape =
 -- ---- what comes of every input
 module _ (P : Task → Result → Type 0) (tape : List ℕ) (table : List ℤ) (set : Settings) (size bytes : ℕ)
     (none : (t : Task) (alarm place : ℕ) → IsAlarm (set .points) alarm → place ≤ length tape - 1 → place ≤ longestTape → P t (refused alarm place))
-    (some : headerSize ≤ bytes → length tape ≤ longestTape → Right table (withPoints false set) → (first end p : ℕ) → let t = taskOf (take end tape) table (withPoints false set) first bytes in
+    (some : headerSize ≤ bytes → length tape ≤ longestTape → settingsWrong table set ≡ false → Right table (withPoints false set) → (first end p : ℕ) → let t = taskOf (take end tape) table (withPoints false set) first bytes in
     p < length (t .tape) → P t (resultOf (programRun t (mainAt set p) mostCalls (startOf (withPoints false set))))) where
-  main-is : headerSize ≤ bytes → length tape ≤ longestTape → Right table (withPoints false set) → (first end : ℕ) → let t = taskOf (take end tape) table (withPoints false set) first bytes in
+  main-is : headerSize ≤ bytes → length tape ≤ longestTape → settingsWrong table set ≡ false → Right table (withPoints false set) → (first end : ℕ) → let t = taskOf (take end tape) table (withPoints false set) first bytes in
       (f : Found) → FoundIn (length (t .tape)) f → P t (mainBy t f)
   unfolding mainBy
-  main-is h n k first end (At p) on = some h n k first end p on
-  main-is h n k first end Nowhere on = none _ _ 0 refl (omega arith) (omega arith)
+  main-is h n w k first end (At p) on = some h n w k first end p on
+  main-is h n w k first end Nowhere on = none _ _ 0 refl (omega arith) (omega arith)
 
-  read-is : headerSize ≤ bytes → length tape ≤ longestTape → Right table (withPoints false set) → (r : Read) → AlarmOn (set .points) (length tape) r → P (readTask tape table set bytes r) (readThen tape table set bytes r)
+  read-is : headerSize ≤ bytes → length tape ≤ longestTape → settingsWrong table set ≡ false → Right table (withPoints false set) → (r : Read) → AlarmOn (set .points) (length tape) r → P (readTask tape table set bytes r) (readThen tape table set bytes r)
   unfolding readThen mainRun
-  read-is h n k (read.Whole first end) on = main-is h n k first end (findProgram (set .main) (lines (take end tape) first)) (program-on (set .main) (take end tape) first)
-  read-is h n k (read.Alarm alarm place) on = none _ alarm place (on .0) (on .1) (omega (arith, n, on .1))
+  read-is h n w k (read.Whole first end) on = main-is h n w k first end (findProgram (set .main) (lines (take end tape) first)) (program-on (set .main) (take end tape) first)
+  read-is h n w k (read.Alarm alarm place) on = none _ alarm place (on .0) (on .1) (omega (arith, n, on .1))
 
   pub every-result : P (task tape table set size bytes) (interpretation tape table set size bytes)
   unfolding interpretation interpretationBy
@@ -89,4 +89,4 @@ module _ (P : Task → Result → Type 0) (tape : List ℕ) (table : List ℤ) (
       by-test (P t) (settingsWrong table set) _ _ (first _ refl) λ settings.
       by-test (P t) (ltb longestTape (length tape)) _ _ (first _ refl) λ short.
       by-test (P t) (ltb bytes headerSize) _ _ (first _ refl) λ long.
-      read-is (ltb-false bytes headerSize long) (ltb-false longestTape (length tape) short) (right-points false (right table set settings)) (readWith (set .points) size tape .read) (read-on (set .points) size tape)
+      read-is (ltb-false bytes headerSize long) (ltb-false longestTape (length tape) short) settings (right-points false (right table set settings)) (readWith (set .points) size tape .read) (read-on (set .points) size tape)

@@ -12,6 +12,8 @@ use Rattle.block.specs.declared.words.Block.{Block}
 use Rattle.cycles.specs.Known.{home}
 use Rattle.moves.specs.Last.{lastOf}
 use Rattle.moves.proofs.Last.{after-move, after-here, last-append}
+use Rattle.arcs.specs.Arcs.{endRecord}
+use Rattle.arcs.proofs.Ranges.{arc-last}
 use Rattle.cycles.proofs.Homes.{goes-home}
 use Rattle.state.specs.declared.modal.State.{State}
 use Rattle.asking.specs.Judge.{doing}
@@ -48,11 +50,12 @@ module _ (second : Bool) where
   on-one r u h = (λ i. cond second (h .1 i) (h .0 i))
 
   doing-last : (u : State) (d : Deed) (s : Sending) → s .x ≡ u .x → s .z ≡ u .z → Starts d s → lastOf on (stands u) (doing d) ≡ stands (done u d)
-  unfolding doing done moved
+  unfolding doing done moved endRecord
   doing-last u deed.Nothing s x z h = refl
   doing-last u deed.Nowhere s x z h = refl
   doing-last u (deed.Dwell r) s x z h = after-here on r (stands u) (on-one r u (h .0 ∙ x, h .1 ∙ z))
   doing-last u (deed.Straight m) s x z h = after-move on (m .goes) (stands u) h
+  doing-last u (deed.Round r) s x z h = arc-last (r .arc) (r .f) (r .g95) on (stands u)
   doing-last u (deed.Cycle c) s x z h = goes-home on c (stands u) (on-one (home c) u (h .0 ∙ x, h .1 ∙ z))
 
   -- the last record of a block stands where the state after it does

@@ -10,7 +10,7 @@ use Rattle.numbers.specs.Numbers.{digitsOf, unsignedPath, pathOf, digitsIn, num
 use Rattle.addresses.specs.Words.{capital, endsNumber, formOf, numberWord, indexedWord, wordAt, nextWord, lacksPoint, wordsUp, wordsFrom}
 use Rattle.codes.specs.Codes.{gCode, mCode}
 use Rattle.block.specs.Slots.{has, groupZeroIs, codeIn, anyOf, gIn, mIn}
-use Rattle.rules.specs.Rules.{callsOrJumps, unknownNumber, lateN, afterProgram, axisTwice, lWordWrong, moreThanL, dWordWrong, broken, brokenBy, lacksBy, judged, callWrong, pathWrong, isForeign, dWordMissing, bitsWrong, motionWrong}
+use Rattle.rules.specs.Rules.{callsOrJumps, unknownNumber, lateN, afterProgram, axisTwice, lWordWrong, moreThanL, dWordWrong, broken, brokenBy, lacksBy, judged, callWrong, pathWrong, centreWrong, isForeign, dWordMissing, bitsWrong, motionWrong}
 use Rattle.block.specs.Words.{slotOf, noWords, isEnd, putWord, isProgramAddress, faultyRest, gather, headBy, headOf, lineOf}
 use Rattle.acts.specs.Acting.{returnsBy, motionBy, keep, shiftBy, endsBy, cuttingBy, revolutionBy}
 use Rattle.state.specs.Modal.{blockMotion, correctionAfter, feedAfter, dueAfter, settled}
@@ -26,7 +26,7 @@ use Rattle.settings.specs.Limits.{outsideSpan, outside}
 use Rattle.axes.specs.Limits.{anyOutside}
 use Rattle.turning.specs.Turning.{tooShort, passCount, passOn, passes, turning, recordCount}
 use Rattle.grooving.specs.Grooving.{wrong, stepCount, steps, cutCount, cutting, dwelling, plunge, plunges, grooving, plungeCount, recordCount as recordCountGrooving}
-use Rattle.deeds.specs.Deed.{hasPath, isFacing, turningOf, grooveOf, straightIf, moveOf, deedOf}
+use Rattle.deeds.specs.Deed.{hasPath, hasCentre, isFacing, turningOf, grooveOf, straightIf, moveOf, deedOf}
 use Rattle.asking.specs.Judge.{asksOf, alarmOf, doing}
 use Rattle.verdicts.specs.Verdicts.{sendingOf, deedIn, asksIn, askedIn, alarmIn}
 use Rattle.machine.specs.Blocks.{doneRecords, doneState}
@@ -42,11 +42,11 @@ use Rattle.demands.specs.Table.{table, allHold}
 pub pieces-come-out : allHold table ≡ true
 unfolding count pieces inTable roomOf seek opensTape isLineFeed lineAt gapOf linesUp lines digitsOf unsignedPath pathOf digitsIn numberOf capital endsNumber formOf numberWord
     indexedWord wordAt nextWord wordsUp wordsFrom gCode mCode has anyOf groupZeroIs callsOrJumps unknownNumber lateN afterProgram axisTwice lWordWrong standsFreely standsWith standsBy isTaken moreThanL
-    callWrong pathWrong isForeign dWordMissing bitsWrong motionWrong dWordWrong broken brokenBy lacksBy judged slotOf noWords isEnd endsBy
+    callWrong pathWrong centreWrong isForeign dWordMissing bitsWrong motionWrong dWordWrong broken brokenBy lacksBy judged slotOf noWords isEnd endsBy
     putWord isProgramAddress faultyRest gather headBy headOf lineOf lacksPoint hereOf foundBy seekLine blockOfProgram headAlarm lineAlarm noted endsWith keyIn inserted filed roomAlarm alarmWith readLinesWith readWith
     rapidTo feedTo dwellAt outsideSpan outside anyOutside tooShort passCount passOn passes turning recordCount wrong stepCount steps cutCount cutting dwelling plunge plunges
     grooving plungeCount recordCountGrooving codeIn gIn motionBy blockMotion keep shiftBy cuttingBy revolutionBy correctionAfter feedAfter dueAfter settled timesOf steered flowBy mIn
-    requestOf pairOf correctionPair offsetOf targetX targetZ hasPath isFacing turningOf grooveOf straightIf moveOf deedOf asksOf
+    requestOf pairOf correctionPair offsetOf targetX targetZ hasPath hasCentre isFacing turningOf grooveOf straightIf moveOf deedOf asksOf
     alarmOf sendingOf deedIn asksIn askedIn alarmIn doneRecords doneState oneIf speedOf toolOf mOf speedAndTool spindleAndCoolant doing moved done stops stopping
     writes otherCount calledAt jumpedTo lookedBy lookedUp blockIn blockOn onwardBy alarmBy alarmAt runAfter doneAt recordsAt takenBy takenFrom answerBy resultOf mainBy
     mainRun readThen interpretationBy interpretation recordsOf pre goBack andThen goOn onward blocks enough repeated called someOut spanWrong numbersWrong tableWrong settingsWrong returnsBy

@@ -6,3 +6,4 @@ pub mod Opens
 pub mod Demands
 pub mod Points
 pub mod Strokes
+pub mod Arcs

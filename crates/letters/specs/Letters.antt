@@ -50,6 +50,12 @@ letterF = 70
 abbrev pub letterG : ℕ
 letterG = 71
 
+abbrev pub letterI : ℕ
+letterI = 73
+
+abbrev pub letterK : ℕ
+letterK = 75
+
 abbrev pub letterL : ℕ
 letterL = 76
 

@@ -21,6 +21,7 @@ use Rattle.settings.specs.Known.{SpanIn, InRange}
 use Rattle.settings.specs.Limits.{outside, outsideSpan}
 use Rattle.settings.specs.declared.control.Settings.{Settings}
 use Rattle.settings.specs.declared.limits.Span.{Span}
+use Rattle.arcs.proofs.Ranges.{end-inside}
 use Rattle.axes.proofs.Reaching.{inside}
 use Rattle.state.specs.Modal.{settled}
 use Rattle.state.specs.Known.{Sound}
@@ -66,6 +67,20 @@ module _ (table : List ℤ) (set : Settings) (s : State) (b : Block) where
     unfolding blockRecords
     done-recorded = rw (eq-eqb (alarmIn table set s b left) 0 well) refl
 
+    -- and it leaves the axes within the limits, where they stood there before it
+    stands-done : (u : State) → outside (set .limits) (u .x) (u .z) ≡ false → (d : Deed) → asksOf d (set .limits) .outside ≡ false → outside (set .limits) (done u d .x) (done u d .z) ≡ false
+    unfolding done moved asksOf
+    stands-done u h deed.Nothing e = h
+    stands-done u h deed.Nowhere e = h
+    stands-done u h (deed.Dwell r) e = h
+    stands-done u h (deed.Straight m) e = e
+    stands-done u h (deed.Round q) e = end-inside (set .limits) (q .arc) e
+    stands-done u h (deed.Cycle c) e = h
+
+    pub stands-inside : outside (set .limits) (s .x) (s .z) ≡ false → outside (set .limits) (doneState table set s b .x) (doneState table set s b .z) ≡ false
+    unfolding settled doneState asksIn
+    stands-inside h = stands-done (settled s b) h (deedIn table set s b) (all-passed table set s b left well .inside)
+
     -- what is known between two blocks is known after it
     module _ (r : InRange set) (h : Sound s) where
       in-span : (l : Span) → SpanIn l → (v : ℤ) → outsideSpan l v ≡ false → inTable v ≡ true
@@ -87,6 +102,7 @@ module _ (table : List ℤ) (set : Settings) (s : State) (b : Block) where
       sound-done u k deed.Nowhere e = k
       sound-done u k (deed.Dwell r) e = k
       sound-done u k (deed.Straight m) e = sound-at u k (u .«rapid_due» && not (m .rapid)) (m .goes .x) (m .goes .z) e
+      sound-done u k (deed.Round q) e = sound-at u k (u .«rapid_due») (q .arc .end .x) (q .arc .end .z) (end-inside (set .limits) (q .arc) e)
       sound-done u k (deed.Cycle c) e = k
 
       pub sound-after : Sound (doneState table set s b)

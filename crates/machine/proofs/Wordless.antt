@@ -20,7 +20,7 @@ use Rattle.settings.specs.declared.limits.Limits.{Limits}
 use Rattle.state.specs.Modal.{blockMotion, correctionAfter, feedAfter, dueAfter, settled}
 use Rattle.state.specs.Known.{Sound}
 use Rattle.state.specs.declared.modal.State.{State}
-use Rattle.deeds.specs.Deed.{hasPath, straightIf, moveOf, deedOf}
+use Rattle.deeds.specs.Deed.{hasPath, hasCentre, straightIf, roundIf, moveOf, deedOf}
 use Rattle.deeds.specs.declared.deed.Deed.{Deed}
 use Rattle.deeds.specs.declared.deed.Deed.the-variants as deed
 use Rattle.deeds.specs.declared.deed.Sending.{Sending}
@@ -37,6 +37,8 @@ unfolding keep
 keep-same Nothing = refl
 keep-same (Of motion.Rapid) = refl
 keep-same (Of motion.Feed) = refl
+keep-same (Of motion.Clockwise) = refl
+keep-same (Of motion.Counterclockwise) = refl
 keep-same (Of motion.Thread) = refl
 keep-same (Of motion.Dwell) = refl
 keep-same (Of motion.Turning) = refl
@@ -70,10 +72,12 @@ IsNothing Nothing = Unit {0}
 IsNothing (Of m) = ⊥
 
 none-moves : (m : Kept) → keep m Nothing ≡ m → (x : Sending) → deedOf (blockMotion m noWords) noWords x ≡ deed.Nothing
-unfolding noWords has gIn motionBy blockMotion keep hasPath straightIf moveOf deedOf
+unfolding noWords has gIn motionBy blockMotion keep hasPath hasCentre straightIf roundIf moveOf deedOf
 none-moves Nothing e x = refl
 none-moves (Of motion.Rapid) e x = refl
 none-moves (Of motion.Feed) e x = refl
+none-moves (Of motion.Clockwise) e x = refl
+none-moves (Of motion.Counterclockwise) e x = refl
 none-moves (Of motion.Thread) e x = refl
 none-moves (Of motion.Dwell) e x = absurd (subst IsNothing e tt)
 none-moves (Of motion.Turning) e x = absurd (subst IsNothing e tt)

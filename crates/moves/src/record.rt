@@ -27,7 +27,7 @@ impl Record {
 
     pub const SPEED: u8 = 7;
 
-    // The arcs, and the record behind each that has its centre. (02, request 4. No run writes them yet.)
+    // The arcs, and the record behind each that has its centre. (02, request 4.)
     pub const CLOCKWISE: u8 = 8;
 
     pub const COUNTERCLOCKWISE: u8 = 9;

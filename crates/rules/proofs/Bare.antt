@@ -17,11 +17,11 @@ use Rattle.block.specs.declared.words.Rest.{Rest}
 use Rattle.block.specs.Slots.{has, anyOf, gIn}
 use Rattle.block.specs.Words.{longestLine, noWords, gather, reading, lineOf, startOf}
 use Rattle.block.proofs.Lines.{rest-none, lineFrom, line-from}
-use Rattle.rules.specs.Rules.{callsOrJumps, unknownNumber, lateN, afterProgram, axisTwice, lWordWrong, moreThanL, callWrong, pathWrong, isForeign, dWordWrong, dWordMissing, bitsWrong, motionWrong, broken, brokenBy, lacksBy, judgedAlone, refusedLine, judgedBy, judged}
+use Rattle.rules.specs.Rules.{callsOrJumps, unknownNumber, lateN, afterProgram, axisTwice, lWordWrong, moreThanL, callWrong, pathWrong, centreWrong, isForeign, dWordWrong, dWordMissing, bitsWrong, motionWrong, broken, brokenBy, lacksBy, judgedAlone, refusedLine, judgedBy, judged}
 
 -- no words break no rule
 none-broken : broken noWords ≡ false
-unfolding noWords has anyOf gIn standsBy callsOrJumps unknownNumber lateN axisTwice lWordWrong moreThanL callWrong pathWrong isForeign dWordWrong dWordMissing bitsWrong motionWrong broken standsFreely
+unfolding noWords has anyOf gIn standsBy callsOrJumps unknownNumber lateN axisTwice lWordWrong moreThanL callWrong pathWrong centreWrong isForeign dWordWrong dWordMissing bitsWrong motionWrong broken standsFreely
 none-broken = refl
 
 none-wrong : (h : Head) → brokenBy h noWords ≡ false

@@ -15,7 +15,7 @@ use Rattle.block.specs.declared.words.Head.{Head}
 use Rattle.block.specs.declared.words.Head.the-variants.{Blank, ProgramLine, BlockLine, Other}
 use Rattle.block.specs.declared.words.ReadLine.{ReadLine}
 use Rattle.rules.specs.declared.judge.Judged.{Judged}
-use Rattle.block.specs.Slots.{xSlot, zSlot, uSlot, wSlot, fSlot, sSlot, tSlot, dSlot, lSlot, motionSlot, steeringSlot, pathSlots, mSlots, pSlots, dSlots, indexes, has, codeIn, gIn, anyOf, anyIn}
+use Rattle.block.specs.Slots.{xSlot, zSlot, uSlot, wSlot, iSlot, kSlot, fSlot, sSlot, tSlot, dSlot, lSlot, motionSlot, steeringSlot, pathSlots, centreSlots, mSlots, pSlots, dSlots, indexes, has, codeIn, gIn, anyOf, anyIn}
 use Rattle.block.specs.Words.{longestLine, lineOf}
 
 -- "a G25 or G27 block": group 6
@@ -44,7 +44,7 @@ lWordWrong b = (callsOrJumps b && not (has b lSlot)) || (not (callsOrJumps b) &&
 
 -- "a G25 or G27 block holds N, G and L words only": no word of another address
 unfoldable pub moreThanL : Block → Bool
-moreThanL b = callsOrJumps b && anyIn b (pathSlots ++ ((fSlot ∷ sSlot ∷ tSlot ∷ []) ++ (mSlots ++ (pSlots ++ dSlots))))
+moreThanL b = callsOrJumps b && anyIn b (pathSlots ++ (centreSlots ++ ((fSlot ∷ sSlot ∷ tSlot ∷ []) ++ (mSlots ++ (pSlots ++ dSlots)))))
 
 -- ---- what the block's own word of group 0 asks and forbids: the row of its motion (`standsWith`)
 -- "no G04 with G25 or G27"
@@ -64,6 +64,10 @@ pathWrong Forbidden b = onX b || onZ b
 pathWrong EachAxis b = not (onX b && onZ b)
 pathWrong ZAlone b = onX b || not (onZ b)
 
+-- 02: "I or K beside another group 0 word in 9": where I and K may not stand
+unfoldable pub centreWrong : Bool → Block → Bool
+centreWrong centre b = not centre && (has b iSlot || has b kSlot)
+
 -- "no other P or D": a D word that the motion does not take
 unfoldable pub isForeign : List ℕ → Block → ℕ → Bool
 isForeign takes b i = has b (dSlot i) && not (isTaken takes i)
@@ -81,7 +85,8 @@ bitsWrong bits b = not (eqb bits none) && ltb greatestBits (codeIn b (dSlot bits
 
 -- one of these, or a P word, which no motion takes
 abbrev pub wrongBy : Stands → Block → Bool
-wrongBy a b = callWrong (a .calls) b || (pathWrong (a .path) b || ((anyIn b pSlots || dWordWrong (a .takes) b) || (dWordMissing (a .needs) b || bitsWrong (a .bits) b)))
+wrongBy a b =
+    callWrong (a .calls) b || (pathWrong (a .path) b || (centreWrong (a .centre) b || ((anyIn b pSlots || dWordWrong (a .takes) b) || (dWordMissing (a .needs) b || bitsWrong (a .bits) b))))
 
 unfoldable pub motionWrong : Block → Bool
 motionWrong b = wrongBy (standsBy (gIn b motionSlot)) b

@@ -9,7 +9,7 @@ ghost use Prim.Native.Nat.{_-_, _≤_};
 ghost use lib.Dec.{eqb};
 ghost use Rattle.acts.specs.Stands.{none, isTaken};
 ghost use Rattle.block.specs.Slots.{slots, numbersFrom, anyIn};
-ghost use Rattle.rules.specs.Rules.{callsOrJumps, axisTwice, lWordWrong, moreThanL, callWrong, pathWrong, dWordWrong, dWordMissing, bitsWrong, motionWrong, broken};
+ghost use Rattle.rules.specs.Rules.{callsOrJumps, axisTwice, lWordWrong, moreThanL, callWrong, pathWrong, centreWrong, dWordWrong, dWordMissing, bitsWrong, motionWrong, broken};
 
 // P and D have the indexes 0 to 9.
 const INDEXES: usize = 10;
@@ -84,6 +84,13 @@ fn path_wrong(path: Path, b: Block) -> bool
     }
 }
 
+// 02: "I or K beside another group 0 word in 9"
+fn centre_wrong(centre: bool, b: Block) -> bool
+    ensures { λ r. ⌜ r ≡ centreWrong centre b ⌝ }
+{
+    !centre & (has(b, block::words::I) | has(b, block::words::K))
+}
+
 // Whether the D word of an index is one of those that are taken.
 fn is_taken(takes: [usize; 4], i: usize) -> bool
     ensures { λ r. ⌜ r ≡ isTaken takes i ⌝ }
@@ -148,10 +155,11 @@ fn motion_wrong(b: Block) -> bool
     let path = asks.path;
     let takes = asks.takes;
     let call = call_wrong(asks.calls, b);
+    let centre = centre_wrong(asks.centre, b);
     let settings = any(b, block::words::P, block::words::D) | d_word_wrong(takes, b);
     let missing = d_word_missing(asks.needs, b);
     let bits = bits_wrong(asks.bits, b);
-    call | (path_wrong(path, b) | (settings | (missing | bits)))
+    call | (path_wrong(path, b) | (centre | (settings | (missing | bits))))
 }
 
 // Whether a block breaks a word rule.

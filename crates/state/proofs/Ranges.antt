@@ -78,6 +78,8 @@ unfolding keep
 keep-kept Nothing before e = e
 keep-kept (Of motion.Rapid) before e = refl
 keep-kept (Of motion.Feed) before e = refl
+keep-kept (Of motion.Clockwise) before e = refl
+keep-kept (Of motion.Counterclockwise) before e = refl
 keep-kept (Of motion.Thread) before e = refl
 keep-kept (Of motion.Dwell) before e = e
 keep-kept (Of motion.Turning) before e = e
@@ -105,7 +107,7 @@ start-sound x z hx hz = record { kept = refl; numbers = record { «shift_group3�
 
 -- ---- it is what a target asks for, with the offset of the table
 sent-with : (s : State) (b : Block) (o : ℤ) → Sound s → Worded b → Offset o → Sent s b o
-sent-with s b o h w f = record { x = h .x; z = h .z; words = w .paths; low = f .low; high = f .high }
+sent-with s b o h w f = record { x = h .x; z = h .z; words = λ k l. w .paths k (omega arith); low = f .low; high = f .high }
 
 pub sent-by : (table : List ℤ) (s : State) (b : Block) → Table table → Sound s → Worded b
     → Sent (settled s b) b (offsetOf table (settled s b) .x) × Sent (settled s b) b (offsetOf table (settled s b) .z)

@@ -19,7 +19,7 @@ use Rattle.whole.specs.declared.position.Placed.the-variants.{At}
 use Rattle.whole.proofs.Integers.{whole, add-in}
 use Rattle.whole.proofs.Held.{Holds, held, is, sum, sum-need}
 use Rattle.whole.proofs.Positions.{InTable, in-range, placed-at, w-placed, u-placed}
-use Rattle.block.specs.Slots.{xSlot, zSlot, has}
+use Rattle.block.specs.Slots.{xSlot, zSlot, wSlot, has}
 use Rattle.block.specs.declared.words.Block.{Block}
 use Rattle.state.specs.declared.target.Pair.{Pair}
 use Rattle.settings.specs.Known.{Table}
@@ -113,7 +113,7 @@ pub record Going (b : Block) (k : ℕ) (present offset : ℤ) : Type 0 where
   pub high : offset ≤ℤ offsetGreatest
 
 module _ (s : State) (b : Block) (offset : ℤ) (h : Sent s b offset) where
-  words : (k : ℕ) → k ≤ 3 → InTable (getD (b .value) k (pos 0))
+  words : (k : ℕ) → k ≤ wSlot → InTable (getD (b .value) k (pos 0))
   words k l = in-range (getD (b .value) k (pos 0)) (h .words k l)
 
   offset-fits : SFits w32 offset

@@ -12,6 +12,7 @@ use Rattle.whole.specs.declared.position.Placed.{Placed}
 use Rattle.whole.specs.declared.position.Placed.the-variants.{At, Outside}
 use Rattle.acts.specs.Acting.{keep}
 use Rattle.acts.specs.declared.acting.Kept.the-variants.{Nothing}
+use Rattle.block.specs.Slots.{wSlot}
 use Rattle.block.specs.declared.words.Block.{Block}
 use Rattle.state.specs.declared.modal.State.{State}
 
@@ -45,6 +46,6 @@ offsetLeast = minus 29_999_997
 pub record Sent (s : State) (b : Block) (offset : ℤ) : Type 0 where
   pub x : inTable (s .x) ≡ true
   pub z : inTable (s .z) ≡ true
-  pub words : (k : ℕ) → k ≤ 3 → inTable (getD (b .value) k (pos 0)) ≡ true
+  pub words : (k : ℕ) → k ≤ wSlot → inTable (getD (b .value) k (pos 0)) ≡ true
   pub low : offsetLeast ≤ℤ offset
   pub high : offset ≤ℤ offsetGreatest

@@ -13,7 +13,7 @@ use Rattle.whole.specs.Position.{inTable}
 use Rattle.whole.proofs.Integers.{whole, sub-in, abs}
 use Rattle.whole.proofs.Positions.{in-range}
 use Rattle.block.specs.Worded.{Worded}
-use Rattle.block.specs.Slots.{fSlot, has, codeIn, gIn}
+use Rattle.block.specs.Slots.{iSlot, kSlot, fSlot, has, codeIn, gIn}
 use Rattle.state.specs.Modal.{feedAfter, settled, blockMotion}
 use Rattle.state.specs.Target.{offsetOf, targetX, targetZ}
 use Rattle.state.specs.Known.{Numbers, Sound, Sent}
@@ -24,7 +24,7 @@ use Rattle.settings.specs.Known.{Table, InRange}
 use Rattle.settings.specs.declared.control.Settings.{Settings}
 use Rattle.state.specs.declared.modal.State.{State}
 use Rattle.state.specs.declared.target.Pair.{Pair}
-use Rattle.deeds.specs.Known.{Small}
+use Rattle.deeds.specs.Known.{Small, Centred}
 use Rattle.deeds.proofs.Made.{Sends, known as deed-known}
 use Rattle.deeds.specs.Known.{Known}
 use Rattle.verdicts.specs.Verdicts.{sendingOf, deedIn}
@@ -33,6 +33,13 @@ use Rattle.verdicts.specs.Verdicts.{sendingOf, deedIn}
 pub small : (b : Block) → Worded b → Small b
 unfolding codeIn gIn
 small b w = record { each = w .settings }
+
+-- its I and K words, and where the axes stand
+pub centred : (table : List ℤ) (set : Settings) (s : State) (b : Block) → Sound s → Worded b → Centred b (sendingOf table set s b)
+unfolding sendingOf
+centred table set s b h w =
+    let k = settled-sound s b h in
+    record { x = k .x; z = k .z; i = w .paths iSlot (omega arith); k = w .paths kSlot (omega arith) }
 
 -- ---- the targets, of the state t that the block's words have settled
 module _ (table : List ℤ) (s : State) (b : Block) (known : Table table) (h : Sound s) (w : Worded b) {t : State} (e : t ≡ settled s b) where
@@ -123,4 +130,4 @@ module _ (table : List ℤ) (set : Settings) (s : State) (b : Block) (known : Ta
 
   pub known-in : Known (deedIn table set s b)
   unfolding deedIn
-  known-in = deed-known b (sendingOf table set s b) sends (small b w) (blockMotion (s .motion) b)
+  known-in = deed-known b (sendingOf table set s b) sends (small b w) (centred table set s b h w) (blockMotion (s .motion) b)

@@ -47,7 +47,10 @@ module _ {d e : Deed} (is : d ≡ e) (k : ℕ) where
       ∙ ap (laid b (recordStart k)) (row-one r)
       ∙ ap (λ (v : List Record). laid b (recordStart k) (rowBytes v)) (sym w ∙ doing-by is)
 
-  -- the records of a cycle
+  -- a row of records
+  pub row-room : (v : List Record) (n : ℕ) → doing e ≡ v → recordStart (k + length (doing d)) ≤ n → recordStart (k + length v) ≤ n
+  row-room v n h l = omega (arith, l, ap length (doing-by is), ap length h)
+
   pub row-written : (v : List Record) (b : List ℕ) {l : List ℕ} → l ≡ laid b (recordStart k) (rowBytes v) → doing e ≡ v → l ≡ laid b (recordStart k) (rowBytes (doing d))
   row-written v b h w = h ∙ ap (λ (v : List Record). laid b (recordStart k) (rowBytes v)) (sym w ∙ doing-by is)
 

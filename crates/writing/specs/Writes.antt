@@ -44,12 +44,13 @@ unfoldable pub moved : State → Bool → ℤ → ℤ → State
 moved s due x z =
     record { motion = s .motion; g96 = s .g96; g95 = s .g95; «shift_group3» = s .«shift_group3»; «shift_group5» = s .«shift_group5»; correction = s .correction; f = s .f; «rapid_due» = due; x = x; z = z }
 
--- the state after the deed: a move ends at its target, a cycle where it began; after a G00 with a path word none is due
+-- the state after the deed: a move and an arc end at their target, a cycle where it began; after a G00 with a path word none is due
 unfoldable pub done : State → Deed → State
 done s deed.Nothing = s
 done s deed.Nowhere = s
 done s (deed.Dwell r) = s
 done s (deed.Straight m) = moved s (s .«rapid_due» && not (m .rapid)) (m .goes .x) (m .goes .z)
+done s (deed.Round r) = moved s (s .«rapid_due») (r .arc .end .x) (r .arc .end .z)
 done s (deed.Cycle c) = s
 
 -- "then M00 or M30. M17 gives none", in the state after the deed

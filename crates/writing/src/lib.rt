@@ -2,6 +2,7 @@
 // The room for all of them was asked for before (alarm 20).
 use block::words::Block;
 use deeds::deed::Deed;
+use deeds::deed::Round;
 use moves::record::Record;
 use state::modal::State;
 ghost use mathlib.Core.Path.{_≡_};
@@ -9,6 +10,8 @@ ghost use Prim.Native.Nat.{_+_, _<_, _≤_};
 ghost use lib.ListN.{length};
 ghost use Rattle.whole.specs.Bytes.{laid};
 ghost use Rattle.moves.specs.Form.{recordStart, rowBytes};
+ghost use Rattle.arcs.specs.Arcs.{arcRecords};
+ghost use Rattle.block.specs.Slots.{slots};
 ghost use Rattle.asking.specs.Judge.{doing};
 ghost use Rattle.deeds.specs.Known.{Right, Known};
 ghost use Rattle.writing.specs.Writes.{oneIf, numberIf, speedOf, toolOf, mOf, speedAndTool, spindleAndCoolant, moved, done, stops, writes, otherCount};
@@ -48,7 +51,7 @@ fn tool_of(s: State, b: Block) -> Record
 }
 
 fn m_of(s: State, b: Block, k: usize) -> Record
-    requires { ⌜ k < 40 ⌝ }
+    requires { ⌜ k < slots ⌝ }
     ensures { λ r. ⌜ r ≡ mOf s b k ⌝ }
 {
     let n = block::words::code_in(b, k);
@@ -77,6 +80,18 @@ fn put_spindle_and_coolant(buf: &mut [u8], k: usize, s: State, b: Block) -> usiz
     put_if(buf, second, block::words::has(b, COOLANT), coolant)
 }
 
+// Writes the two records of an arc, from number k on. (02: "kinds 8 and 9 are as kind 2 with the end point, and a following record, kind 10, carries the centre".)
+fn put_round(buf: &mut [u8], k: usize, r: Round)
+    requires { ⌜ recordStart (k + length (arcRecords (r .arc) (r .f) (r .g95))) ≤ length (now buf) ⌝ }
+    ensures { λ _. ⌜ now (buf .exit) ≡ laid (now (buf .entry)) (recordStart k) (rowBytes (arcRecords (r .arc) (r .f) (r .g95))) ⌝ }
+{
+    let arc = r.arc;
+    let goes = arcs::arc::end_record(arc, r.f, r.g95);
+    let around = arcs::arc::centre_record(arc);
+    let second = put_if(buf, k, true, goes);
+    put_if(buf, second, true, around);
+}
+
 // Writes the records of a deed, from number k on.
 fn put_deed(buf: &mut [u8], k: usize, d: Deed)
     requires { ⌜ Right d × Known d × (recordStart (k + length (doing d)) ≤ length (now buf)) ⌝ }
@@ -90,6 +105,7 @@ fn put_deed(buf: &mut [u8], k: usize, d: Deed)
             let goes = m.goes;
             moves::list::write_record(buf, k, goes);
         }
+        Deed::Round(r) => put_round(buf, k, r),
         Deed::Cycle(c) => cycles::put_cycle(buf, k, c),
     }
 }
@@ -113,7 +129,7 @@ fn moved(s: State, due: bool, x: i32, z: i32) -> State
     }
 }
 
-// The state after a deed: a move ends at its target, a cycle where it began; after a G00 none is due.
+// The state after a deed: a move and an arc end at their target, a cycle where it began; after a G00 none is due.
 pub fn done_of(s: State, d: Deed) -> State
     ensures { λ r. ⌜ r ≡ done s d ⌝ }
 {
@@ -125,6 +141,11 @@ pub fn done_of(s: State, d: Deed) -> State
             let goes = m.goes;
             let due = s.rapid_due & !m.rapid;
             moved(s, due, goes.x, goes.z)
+        }
+        Deed::Round(r) => {
+            let arc = r.arc;
+            let end = arc.end;
+            moved(s, s.rapid_due, end.x, end.z)
         }
         Deed::Cycle(_) => s,
     }

@@ -3,7 +3,7 @@
 use mathlib.Core.List.{[], _∷_}
 use mathlib.Core.Logic.{inl, inr, ⊎-elim}
 use native.Mathlib.Omega.{arith}
-use Rattle.letters.specs.Letters.{percent, letterD, letterF, letterG, letterL, letterM, letterP, letterU, letterZ}
+use Rattle.letters.specs.Letters.{percent, letterD, letterF, letterG, letterI, letterK, letterL, letterM, letterP, letterU, letterZ}
 use Rattle.numbers.specs.declared.NumberForm.the-variants.{Path, FourDigits}
 use Rattle.addresses.specs.declared.Address.the-variants.{Known, Unknown}
 use Rattle.addresses.specs.Words.{formOf}
@@ -23,27 +23,27 @@ returns-3 : tie.Need-returns-3
 unfolding formOf
 returns-3 c = rw (c .match .keys5)
 
--- below L: neither D, nor G, nor %, nor F
+-- below K: neither D, nor G, nor %, nor F, nor I
 returns-4 : tie.Need-returns-4
 unfolding formOf
 returns-4 c =
     let r = c .before .match .rest in
-    form-in Unknown (letterD ∷ letterG ∷ percent ∷ letterF ∷ []) 0 76 (c .before .before .args .address) tt (omega arith) (c .if1 .taken)
-    (r .1, (λ e. r .0 .0 .0 .1 (inl e), (λ e. r .0 .0 .1 (inl e), (λ e. r .0 .0 .1 (inr e), tt))))
+    form-in Unknown (letterD ∷ letterG ∷ percent ∷ letterF ∷ letterI ∷ []) 0 75 (c .before .before .args .address) tt (omega arith) (c .if1 .taken)
+    (r .1, (λ e. r .0 .0 .0 .1 (inl e), (λ e. r .0 .0 .1 (inl e), (λ e. r .0 .0 .1 (inr e), (λ e. r .0 .0 .0 .0 .1 (inl e), tt)))))
 
 -- from P below S: not P
 returns-5 : tie.Need-returns-5
 unfolding formOf
 returns-5 c =
     let r = c .before .before .before .match .rest in
-    form-in Unknown (letterP ∷ []) 80 3 _ tt (c .before .if2 .left) (c .if3 .taken) (λ e. r .0 .0 .0 .0 .1 (inl e), tt)
+    form-in Unknown (letterP ∷ []) 80 3 _ tt (c .before .if2 .left) (c .if3 .taken) (λ e. r .0 .0 .0 .0 .1 (inr (inr (inl e))), tt)
 
 -- from U below W: not U
 returns-6 : tie.Need-returns-6
 unfolding formOf
 returns-6 c =
     let r = c .before .before .before .before .before .match .rest in
-    form-in Unknown (letterU ∷ []) 85 2 _ tt (c .before .if4 .left) (c .if5 .taken) (λ e. r .0 .0 .0 .0 .1 (inr (inl e)), tt)
+    form-in Unknown (letterU ∷ []) 85 2 _ tt (c .before .if4 .left) (c .if5 .taken) (λ e. r .0 .0 .0 .0 .1 (inr (inr (inr (inl e)))), tt)
 
 -- behind X: not Z
 returns-7 : tie.Need-returns-7
@@ -51,11 +51,11 @@ unfolding formOf
 returns-7 c =
     let a = c .before .before .before .before .before .before .before .args .address in
     let r = c .before .before .before .before .before .before .match .rest in
-    form-in Unknown (letterZ ∷ []) 89 167 a tt (c .if6 .left) (omega arith) (λ e. r .0 .0 .0 .0 .1 (inr (inr e)), tt)
+    form-in Unknown (letterZ ∷ []) 89 167 a tt (c .if6 .left) (omega arith) (λ e. r .0 .0 .0 .0 .1 (inr (inr (inr (inr e)))), tt)
 
 returns-8 : tie.Need-returns-8
 unfolding formOf
-returns-8 c = ⊎-elim (λ e. rw e) (⊎-elim (λ e. rw e) (λ e. rw e)) (c .match .keys1)
+returns-8 c = ⊎-elim (λ e. rw e) (⊎-elim (λ e. rw e) (⊎-elim (λ e. rw e) (⊎-elim (λ e. rw e) (λ e. rw e)))) (c .match .keys1)
 
 -- W and X
 returns-9 : tie.Need-returns-9
@@ -66,12 +66,12 @@ returns-10 : tie.Need-returns-10
 unfolding formOf
 returns-10 c = ⊎-elim (λ e. rw e) (λ e. rw e) (c .match .keys3)
 
--- from L below P: neither L nor M, so N or O
+-- from K below P: neither K, nor L, nor M, so N or O
 returns-11 : tie.Need-returns-11
 unfolding formOf
 returns-11 c =
     let r = c .before .before .match .rest in
-    form-in (Known FourDigits) (letterL ∷ letterM ∷ []) 76 4 _ tt (c .before .if1 .left) (c .if2 .taken) (r .0 .1, (λ e. r .0 .0 .0 .1 (inr e), tt))
+    form-in (Known FourDigits) (letterK ∷ letterL ∷ letterM ∷ []) 75 5 _ tt (c .before .if1 .left) (c .if2 .taken) (λ e. r .0 .0 .0 .0 .1 (inr (inl e)), (r .0 .1, (λ e. r .0 .0 .0 .1 (inr e), tt)))
 
 -- S and T
 returns-12 : tie.Need-returns-12

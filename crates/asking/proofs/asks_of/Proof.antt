@@ -27,7 +27,11 @@ returns-4 c = let m = c .before .before in (c .of-straight .ensures ∙ asks-by 
 
 returns-5 : tie.Need-returns-5
 unfolding asksOf
-returns-5 c = let m = c .before .before in (c .of-cycle .ensures .0 ∙ asks-by (m .before .before .args .l) (m .d2 .given .1), c .of-cycle .ensures .1)
+returns-5 c = let m = c .before .before in (c .of-round .ensures ∙ asks-by (m .before .before .args .l) (m .d2 .given .1), omega (arith, count-by (c .of-round .ensures)))
+
+returns-6 : tie.Need-returns-6
+unfolding asksOf
+returns-6 c = let m = c .before .before in (c .of-cycle .ensures .0 ∙ asks-by (m .before .before .args .l) (m .d3 .given .1), c .of-cycle .ensures .1)
 
 pub asks-of-spec : {M : Type 1} → statement M
 asks-of-spec =
@@ -41,9 +45,12 @@ asks-of-spec =
     (λ c. search needs)
     (λ c κs. search needs)
     (λ c. search needs)
-    (λ c κs. subst Known (c .before .d2 .given .1) (c .before .before .before .pre))
+    (λ c κs. let p = c .before .before .before .pre in (subst Known (c .before .d2 .given .1) (p .0), p .1, p .2))
+    (λ c. search needs)
+    (λ c κs. subst Known (c .before .d3 .given .1) (c .before .before .before .pre .0))
     returns
     returns-2
     returns-3
     returns-4
-    returns-5)
+    returns-5
+    returns-6)

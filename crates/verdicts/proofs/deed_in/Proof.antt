@@ -5,10 +5,10 @@ use denote.Ref.{now}
 use native.Mathlib.Omega.{arith}
 use borrow.Author.Needs.{needs}
 use Rattle.deeds.specs.Deed.{deedOf}
-use Rattle.deeds.specs.Known.{Known}
+use Rattle.deeds.specs.Known.{Centred, Known}
 use Rattle.deeds.specs.declared.deed.Sending.{Sending}
 use Rattle.verdicts.specs.Verdicts.{sendingOf, deedIn}
-use Rattle.verdicts.proofs.Sent.{small, feed-settled, known-in}
+use Rattle.verdicts.proofs.Sent.{small, centred, feed-settled, known-in}
 use Rattle.verdicts.proofs.deed_in.Statement.{statement}
 use Rattle.verdicts.proofs.deed_in.Tie as tie
 
@@ -22,7 +22,11 @@ deed-of-requires : tie.Need-deed-of-requires
 unfolding sendingOf
 deed-of-requires c κs =
     let a = c .before .before in
-    (small (a .args .b) (a .pre .3), subst (λ (n : ℕ). n < 32_768) (sym (ap (λ (s : Sending). s .retract) (c .sending-of .ensures))) (omega (arith, a .pre .1 .retract)))
+    let same = sym (c .sending-of .ensures) in (
+      small (a .args .b) (a .pre .3),
+      subst (Centred (a .args .b)) same (centred (now (a .args .table)) (a .args .set) (a .args .s) (a .args .b) (a .pre .2) (a .pre .3)),
+      subst (λ (n : ℕ). n < 32_768) (ap (λ (s : Sending). s .retract) same) (omega (arith, a .pre .1 .retract)),
+    )
 
 feed-fits : (s : tie.Start) → s .args .s .f < 2 ^ 32
 feed-fits s = search needs

@@ -34,7 +34,17 @@ returns-4 c =
 
 returns-5 : tie.Need-returns-5
 unfolding done
-returns-5 c = done-by (c .before .before .args .s) (c .enum-told4 .given .1)
+returns-5 c =
+    let m = c .before .before .before .before .before .before in
+    let s = m .before .before in
+    let r = m .d2 .given .0 .0 in
+    let f : SFits w32 (r .arc .end .x) = search needs in
+    let g : SFits w32 (r .arc .end .z) = search needs in
+    c .moved2 .ensures ∙ (λ i. moved (s .args .s) (s .args .s .«rapid_due») (toZ-ofZ f i) (toZ-ofZ g i)) ∙ done-by (s .args .s) (m .d2 .given .1)
+
+returns-6 : tie.Need-returns-6
+unfolding done
+returns-6 c = done-by (c .before .before .args .s) (c .enum-told4 .given .1)
 
 pub done-of-spec : {M : Type 1} → statement M
 done-of-spec =
@@ -46,8 +56,11 @@ done-of-spec =
     (λ c. search needs)
     (λ c κs. search needs)
     (λ c. search needs)
+    (λ c κs. search needs)
+    (λ c. search needs)
     returns
     returns-2
     returns-3
     returns-4
-    returns-5)
+    returns-5
+    returns-6)

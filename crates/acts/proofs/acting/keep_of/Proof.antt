@@ -33,13 +33,13 @@ returns-5 : tie.Need-returns-5
 unfolding keep
 returns-5 c =
     let s = c .before .before .before in
-    keep-by (s .before .before .args .before) (kept-is (s .now .given .1) (c .enum-told5 .given .1))
+    ap Of (c .enum-told5 .given .1) ∙ keep-by (s .before .before .args .before) (kept-is (s .now .given .1) (c .enum-told5 .given .1))
 
 returns-6 : tie.Need-returns-6
 unfolding keep
 returns-6 c =
     let s = c .before .before .before in
-    keep-by (s .before .before .args .before) (kept-is (s .now .given .1) (c .enum-told6 .given .1))
+    ap Of (c .enum-told6 .given .1) ∙ keep-by (s .before .before .args .before) (kept-is (s .now .given .1) (c .enum-told6 .given .1))
 
 returns-7 : tie.Need-returns-7
 unfolding keep
@@ -65,10 +65,24 @@ returns-10 c =
     let s = c .before .before .before in
     keep-by (s .before .before .args .before) (kept-is (s .now .given .1) (c .enum-told10 .given .1))
 
+returns-11 : tie.Need-returns-11
+unfolding keep
+returns-11 c =
+    let s = c .before .before .before in
+    keep-by (s .before .before .args .before) (kept-is (s .now .given .1) (c .enum-told11 .given .1))
+
+returns-12 : tie.Need-returns-12
+unfolding keep
+returns-12 c =
+    let s = c .before .before .before in
+    keep-by (s .before .before .args .before) (kept-is (s .now .given .1) (c .enum-told12 .given .1))
+
 pub keep-of-spec : {M : Type 1} → statement M
 keep-of-spec =
     tie.close
     (tie.spec
+    (λ c. search needs)
+    (λ c. search needs)
     (λ c. search needs)
     (λ c. search needs)
     (λ c. search needs)
@@ -89,4 +103,6 @@ keep-of-spec =
     returns-7
     returns-8
     returns-9
-    returns-10)
+    returns-10
+    returns-11
+    returns-12)

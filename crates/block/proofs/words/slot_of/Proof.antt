@@ -55,35 +55,43 @@ returns-8 c = (rw (c .match .keys8), omega arith)
 
 returns-9 : tie.Need-returns-9
 unfolding slotOf
-returns-9 c = (rw (c .match .keys9) (ap (λ (n : ℕ). At (pSlot n)) (c .before .wide .ensures)), omega arith)
+returns-9 c = (rw (c .match .keys9), omega arith)
 
 returns-10 : tie.Need-returns-10
 unfolding slotOf
-returns-10 c = (rw (c .match .keys10) (ap (λ (n : ℕ). At (dSlot n)) (c .before .wide .ensures)), omega arith)
+returns-10 c = (rw (c .match .keys10), omega arith)
 
 returns-11 : tie.Need-returns-11
 unfolding slotOf
-returns-11 c = (
-  c .g-slot .ensures .0 ∙ ap (λ (n : ℕ). codeSlot (gCode n) gSlot) (c .before .magnitude .ensures ∙ ap natAbs (same-value (c .before .before)))
-      ∙ sym (rw (c .before .before .before .match .keys11)),
-  c .g-slot .ensures .1,
-)
+returns-11 c = (rw (c .match .keys11) (ap (λ (n : ℕ). At (pSlot n)) (c .before .wide .ensures)), omega arith)
 
 returns-12 : tie.Need-returns-12
 unfolding slotOf
-returns-12 c = (
-  c .m-slot .ensures .0 ∙ ap (λ (n : ℕ). codeSlot (mCode n) mSlot) (c .before .magnitude2 .ensures ∙ ap natAbs (same-value2 (c .before .before)))
-      ∙ sym (rw (c .before .before .before .match .keys12)),
-  c .m-slot .ensures .1,
-)
+returns-12 c = (rw (c .match .keys12) (ap (λ (n : ℕ). At (dSlot n)) (c .before .wide .ensures)), omega arith)
 
 returns-13 : tie.Need-returns-13
 unfolding slotOf
-returns-13 c = (rw (c .match .keys13), tt)
+returns-13 c = (
+  c .g-slot .ensures .0 ∙ ap (λ (n : ℕ). codeSlot (gCode n) gSlot) (c .before .magnitude .ensures ∙ ap natAbs (same-value (c .before .before)))
+      ∙ sym (rw (c .before .before .before .match .keys13)),
+  c .g-slot .ensures .1,
+)
 
 returns-14 : tie.Need-returns-14
+unfolding slotOf
+returns-14 c = (
+  c .m-slot .ensures .0 ∙ ap (λ (n : ℕ). codeSlot (mCode n) mSlot) (c .before .magnitude2 .ensures ∙ ap natAbs (same-value2 (c .before .before)))
+      ∙ sym (rw (c .before .before .before .match .keys14)),
+  c .m-slot .ensures .1,
+)
+
+returns-15 : tie.Need-returns-15
+unfolding slotOf
+returns-15 c = (rw (c .match .keys15), tt)
+
+returns-16 : tie.Need-returns-16
 unfolding Not
-returns-14 c = (sym (slot-none (c .before .before .args .w) (search needs) (search needs) (search needs) (search needs) (search needs) (search needs) (search needs) (search needs) (search needs) (search needs) (search needs) (search needs) (search needs)), tt)
+returns-16 c = (sym (slot-none (c .before .before .args .w) (search needs) (search needs) (search needs) (search needs) (search needs) (search needs) (search needs) (search needs) (search needs) (search needs) (search needs) (search needs) (search needs) (search needs) (search needs)), tt)
 
 pub slot-of-spec : {M : Type 1} → statement M
 slot-of-spec =
@@ -109,4 +117,6 @@ slot-of-spec =
     returns-11
     returns-12
     returns-13
-    returns-14)
+    returns-14
+    returns-15
+    returns-16)

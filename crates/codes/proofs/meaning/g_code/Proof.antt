@@ -6,17 +6,17 @@ use borrow.Author.Needs.{needs}
 use Rattle.codes.proofs.meaning.g_code.Statement.{statement}
 use Rattle.codes.proofs.meaning.g_code.Tie as tie
 
-sub-t29 : tie.Need-sub-t29
-sub-t29 c = past _ 53 (c .before .if1 .left) (search needs)
+sub-t33 : tie.Need-sub-t33
+sub-t33 c = past _ 53 (c .before .if1 .left) (search needs)
 
-add-t30 : tie.Need-add-t30
-add-t30 c = shift-a-fits _ (c .if2 .taken)
+add-t34 : tie.Need-add-t34
+add-t34 c = shift-a-fits _ (c .if2 .taken)
 
-sub-t32 : tie.Need-sub-t32
-sub-t32 c = past _ 56 (c .before .if2 .left) (search needs)
+sub-t36 : tie.Need-sub-t36
+sub-t36 c = past _ 56 (c .before .if2 .left) (search needs)
 
-add-t33 : tie.Need-add-t33
-add-t33 c = shift-b-fits _ (c .if3 .taken)
+add-t37 : tie.Need-add-t37
+add-t37 c = shift-b-fits _ (c .if3 .taken)
 
 returns : tie.Need-returns
 unfolding gCode
@@ -75,34 +75,42 @@ unfolding gCode
 returns-14 c = rw (c .match .keys14)
 
 returns-15 : tie.Need-returns-15
-returns-15 c = sym (shift-a _ (c .before .if1 .left) (c .if2 .taken) (search needs))
+unfolding gCode
+returns-15 c = rw (c .match .keys15)
 
 returns-16 : tie.Need-returns-16
-returns-16 c = sym (shift-b _ (c .before .if2 .left) (c .if3 .taken) (search needs))
+unfolding gCode
+returns-16 c = rw (c .match .keys16)
 
 returns-17 : tie.Need-returns-17
-returns-17 c = sym (revolution _ (c .before .if4 .left) (c .if5 .taken))
+returns-17 c = sym (shift-a _ (c .before .if1 .left) (c .if2 .taken) (search needs))
 
 returns-18 : tie.Need-returns-18
-returns-18 c = sym (cutting _ (c .before .if5 .left) (c .if6 .taken))
+returns-18 c = sym (shift-b _ (c .before .if2 .left) (c .if3 .taken) (search needs))
 
 returns-19 : tie.Need-returns-19
-returns-19 c = sym (none-low _ (c .if1 .taken) (search needs) (search needs) (search needs) (search needs) (search needs) (search needs))
+returns-19 c = sym (revolution _ (c .before .if4 .left) (c .if5 .taken))
 
 returns-20 : tie.Need-returns-20
-returns-20 c = sym (none-middle _ (c .before .if3 .left) (c .if4 .taken) (search needs) (search needs) (search needs) (search needs) (search needs) (search needs))
+returns-20 c = sym (cutting _ (c .before .if5 .left) (c .if6 .taken))
 
 returns-21 : tie.Need-returns-21
-returns-21 c = sym (none-high _ (c .if6 .left))
+returns-21 c = sym (none-low _ (c .if1 .taken) (search needs) (search needs) (search needs) (search needs) (search needs) (search needs) (search needs) (search needs))
+
+returns-22 : tie.Need-returns-22
+returns-22 c = sym (none-middle _ (c .before .if3 .left) (c .if4 .taken) (search needs) (search needs) (search needs) (search needs) (search needs) (search needs))
+
+returns-23 : tie.Need-returns-23
+returns-23 c = sym (none-high _ (c .if6 .left))
 
 pub g-code-spec : {M : Type 1} → statement M
 g-code-spec =
     tie.close
     (tie.spec
-    sub-t29
-    add-t30
-    sub-t32
-    add-t33
+    sub-t33
+    add-t34
+    sub-t36
+    add-t37
     returns
     returns-2
     returns-3
@@ -123,4 +131,6 @@ g-code-spec =
     returns-18
     returns-19
     returns-20
-    returns-21)
+    returns-21
+    returns-22
+    returns-23)

@@ -17,12 +17,12 @@ asked c = c .stands-by .ensures ∙ ap standsBy (c .before .g-in .ensures)
 
 d-word-missing-requires : tie.Need-d-word-missing-requires
 d-word-missing-requires c κs =
-    let a = c .before .before .before .before in
+    let a = c .before .before .before .before .before in
     subst (λ (x : Stands). x .needs ≤ none) (sym (asked a)) (needs-in (gIn (a .before .before .args .b) motionSlot))
 
 bits-wrong-requires : tie.Need-bits-wrong-requires
 bits-wrong-requires c κs =
-    let a = c .before .before .before .before .before in
+    let a = c .before .before .before .before .before .before in
     subst (λ (x : Stands). x .bits ≤ none) (sym (asked a)) (bits-in (gIn (a .before .before .args .b) motionSlot))
 
 returns : tie.Need-returns
@@ -32,15 +32,18 @@ returns c =
     let m = b .before in
     let d = m .before in
     let s = d .before in
-    let k = s .before in
+    let i = s .before in
+    let k = i .before in
     let a = k .before .before in
-    either (k .call-wrong .ensures) (either (c .path-wrong .ensures) (either (either (s .any .ensures) (d .d-word-wrong .ensures)) (either (m .d-word-missing .ensures) (b .bits-wrong .ensures))))
+    either (k .call-wrong .ensures)
+    (either (c .path-wrong .ensures) (either (i .centre-wrong .ensures) (either (either (s .any .ensures) (d .d-word-wrong .ensures)) (either (m .d-word-missing .ensures) (b .bits-wrong .ensures)))))
     ∙ ap (λ (x : Stands). wrongBy x (a .before .before .args .b)) (asked a)
 
 pub motion-wrong-spec : {M : Type 1} → statement M
 motion-wrong-spec =
     tie.close
     (tie.spec
+    (λ c κs. search needs)
     (λ c κs. search needs)
     (λ c κs. search needs)
     (λ c κs. search needs)
