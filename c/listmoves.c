@@ -27,8 +27,8 @@ static void print_list(size_t length, unsigned count) {
     printf("%.3s %u %u\n", (const char *)list + TM02_AT_MARK, (unsigned)TM02_VERSION, count);
     int64_t record[TM02_READ_NUMBERS];
     for (size_t k = 0; tm02_read_judged(list, length, k, record, TM02_READ_NUMBERS) == 0; k++) {
-        printf("%" PRId64 " %" PRId64 " %" PRId64 " %" PRId64 " %" PRId64 "\n", record[TM02_READ_KIND], record[TM02_READ_FLAGS], record[TM02_READ_X], record[TM02_READ_Z],
-               record[TM02_READ_VALUE]);
+        printf("%" PRId64 " %" PRId64 " %" PRId64 " %" PRId64 " %" PRId64 " %" PRId64 " %" PRId64 "\n", record[TM02_READ_KIND], record[TM02_READ_FLAGS], record[TM02_READ_X],
+               record[TM02_READ_Z], record[TM02_READ_VALUE], record[TM02_READ_PROGRAM], record[TM02_READ_BLOCK]);
     }
 }
 

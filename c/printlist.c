@@ -1,5 +1,6 @@
-/* Reads a list of moves, its bytes, from a file or from standard input, and prints its records as `./listmoves` does, or why it is refused. It judges the list once and then reads its
-   records one after the other. The status is 0 for a list, 1 where it is refused, 2 where there is none. c/compare builds it and gives it the lists of the example tapes. */
+/* Reads a list of moves, its bytes, from a file or from standard input, and prints its records as `./listmoves` does, or why it is refused; those of a list of version 1 without program and
+   block, which it does not tell. It judges the list once and then reads its records one after the other. The status is 0 for a list, 1 where it is refused, 2 where there is none. c/compare
+   builds it and gives it the lists of the example tapes. */
 #include <inttypes.h>
 #include <stdio.h>
 
@@ -27,8 +28,12 @@ int main(int argc, char **argv) {
                list[TM02_AT_COUNT] | (unsigned)list[TM02_AT_COUNT + 1] << 8);
         int64_t record[TM02_READ_NUMBERS];
         for (size_t k = 0; tm02_read_judged(list, length, k, record, TM02_READ_NUMBERS) == 0; k++) {
-            printf("%" PRId64 " %" PRId64 " %" PRId64 " %" PRId64 " %" PRId64 "\n", record[TM02_READ_KIND], record[TM02_READ_FLAGS], record[TM02_READ_X], record[TM02_READ_Z],
+            printf("%" PRId64 " %" PRId64 " %" PRId64 " %" PRId64 " %" PRId64, record[TM02_READ_KIND], record[TM02_READ_FLAGS], record[TM02_READ_X], record[TM02_READ_Z],
                    record[TM02_READ_VALUE]);
+            if (record[TM02_READ_PROGRAM] != TM02_NONE) {
+                printf(" %" PRId64 " %" PRId64, record[TM02_READ_PROGRAM], record[TM02_READ_BLOCK]);
+            }
+            printf("\n");
         }
     }
     if (fflush(stdout) != 0) {

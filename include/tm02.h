@@ -42,20 +42,33 @@ enum { TM02_LONGEST_TAPE = 65535 };
    lines is alarm 22. */
 enum { TM02_MOST_PLACES = 21845 };
 
-/* The list: a header, and then the records. A buffer of TM02_BUFFER_SIZE bytes has room for every list. */
+/* The list, of version 2, the only one that is written: a header, and then the records. A buffer of TM02_BUFFER_SIZE bytes has room for every list. */
 enum {
     TM02_HEADER_SIZE = 8,
-    TM02_RECORD_SIZE = 16,
-    TM02_RECORD_LIMIT = 4000,
+    TM02_RECORD_SIZE = 20,
+    TM02_RECORD_LIMIT = 3200,
     TM02_BUFFER_SIZE = TM02_HEADER_SIZE + TM02_RECORD_SIZE * TM02_RECORD_LIMIT,
-    TM02_VERSION = 1
+    TM02_VERSION = 2
 };
+
+/* A list of version 1, which is read and no longer written: its records have 16 bytes, and no program and block. The longest takes as many bytes, 64,008. */
+enum { TM02_FIRST_VERSION = 1, TM02_FIRST_RECORD_SIZE = 16, TM02_FIRST_RECORD_LIMIT = 4000 };
 
 /* Where the header's parts begin: the mark `TMV`, the version and the count in 16 bits each, a zero. Numbers are little-endian and not aligned: read them byte by byte. */
 enum { TM02_AT_MARK = 0, TM02_AT_VERSION = 3, TM02_AT_COUNT = 5, TM02_AT_HEADER_ZERO = 7 };
 
-/* Where a record's parts begin: a byte each for kind and flags, two zeros, then 32 bits each: the machine positions X and Z after it, signed, and a value. */
-enum { TM02_AT_KIND = 0, TM02_AT_FLAGS = 1, TM02_AT_ZEROS = 2, TM02_AT_X = 4, TM02_AT_Z = 8, TM02_AT_VALUE = 12 };
+/* Where a record's parts begin: a byte each for kind and flags, two zeros, then 32 bits each: the machine positions X and Z after it, signed, and a value; and 16 bits each: the numbers of the
+   program and of the block that it came from, in a subprogram the subprogram's. */
+enum {
+    TM02_AT_KIND = 0,
+    TM02_AT_FLAGS = 1,
+    TM02_AT_ZEROS = 2,
+    TM02_AT_X = 4,
+    TM02_AT_Z = 8,
+    TM02_AT_VALUE = 12,
+    TM02_AT_PROGRAM = 16,
+    TM02_AT_BLOCK = 18
+};
 
 /* The kinds of a record, and what its value is. */
 enum {
@@ -123,7 +136,7 @@ static inline unsigned tm02_count(uint64_t answer) { return (unsigned)(answer & 
 static inline unsigned tm02_place(uint64_t answer) { return (unsigned)(answer >> 16 & 0xffff); }
 static inline unsigned tm02_alarm(uint64_t answer) { return (unsigned)(answer >> 32 & 0xff); }
 
-/* A record that is read back, as so many numbers, and where each stands. A list of version 1 has no program and block, and both are TM02_NONE. */
+/* A record that is read back, as so many numbers, and where each stands. Both versions are read. A list of version 1 has no program and block, and both are TM02_NONE. */
 enum {
     TM02_READ_KIND,
     TM02_READ_FLAGS,
@@ -139,8 +152,8 @@ enum { TM02_NONE = -1 };
 /* Why a list, or k, is refused, in the order in which it is asked. 0 says that it is not. */
 enum {
     TM02_REFUSED_BAD_MARK = 1,    /* another mark, or under 8 bytes */
-    TM02_REFUSED_BAD_VERSION = 2,
-    TM02_REFUSED_BAD_LENGTH = 3,  /* another length than the count's, a count above the limit, or the header's last byte not 0 */
+    TM02_REFUSED_BAD_VERSION = 2, /* neither 1 nor 2 */
+    TM02_REFUSED_BAD_LENGTH = 3,  /* by the version: another length than the count's, a count above the limit, or the header's last byte not 0 */
     TM02_REFUSED_BAD_RECORD = 4,  /* any record: kind, flags, position, spare bytes, or a kind 10 missing behind 8 or 9, or elsewhere */
     TM02_REFUSED_BAD_INDEX = 5,   /* k is not below the count */
     TM02_REFUSED_TOO_FEW_NUMBERS = 6

@@ -53,10 +53,10 @@ there : Answer → Way
 there a = record { steps = []; to = a }
 
 abbrev atBlock : (Standing → Way) → Task → Open → List Open → Run → ℕ → ℕ → Way
-atBlock k t o outer r p n = cond (eqb n 0) (ahead (stepAt t p r ∷ []) (k (after t o outer p r))) (there (Alarm n p (r .count)))
+atBlock k t o outer r p n = cond (eqb n 0) (ahead (stepAt t (o .program) p r ∷ []) (k (after t o outer p r))) (there (Alarm n p (r .count)))
 
 atFound : (Standing → Way) → Task → Open → List Open → Run → Found → Way
-atFound k t o outer r Nowhere = there (Alarm wrongEnd (o .program) (r .count))
+atFound k t o outer r Nowhere = there (Alarm wrongEnd (o .program .line) (r .count))
 atFound k t o outer r (At p) = atBlock k t o outer r p (first blockOrder (begun t o outer p r))
 
 onFrom : (Standing → Way) → Task → List Open → Run → Way
@@ -75,9 +75,9 @@ walk-way t (step {o} {outer} {r} {p} {v} e q h) n =
     let same : suc (length v) + n ≡ suc (length v + n) = omega arith in
     ap (λ (k : ℕ). way k t (standing (o ∷ outer) r)) same
     ∙ ap (atFound (λ z. way (length v + n) t z) t o outer r) e
-    ∙ ap (λ (b : Bool). cond b (ahead (stepAt t p r ∷ []) (way (length v + n) t (after t o outer p r))) (there (Alarm (first blockOrder (begun t o outer p r)) p (r .count))))
+    ∙ ap (λ (b : Bool). cond b (ahead (stepAt t (o .program) p r ∷ []) (way (length v + n) t (after t o outer p r))) (there (Alarm (first blockOrder (begun t o outer p r)) p (r .count))))
     (eq-eqb _ 0 (passes-first (begun t o outer p r) q))
-    ∙ ap (ahead (stepAt t p r ∷ [])) (walk-way t h n)
+    ∙ ap (ahead (stepAt t (o .program) p r ∷ [])) (walk-way t h n)
 
 -- where it comes to an alarm, or to the end
 refused-way : (t : Task) {s : Standing} {alarm place : ℕ} → RunRefused t s alarm place → (n : ℕ) → way (suc n) t s ≡ there (Alarm alarm place (s .run .count))
@@ -87,7 +87,7 @@ refused-way t (block {o} {outer} {r} {p} {n = m} e h) n =
     let is = refused-first x h in
     ap (atFound (λ z. way n t z) t o outer r) e
     ∙ ap (atBlock (λ z. way n t z) t o outer r p) is
-    ∙ ap (λ (b : Bool). cond b (ahead (stepAt t p r ∷ []) (way n t (after t o outer p r))) (there (Alarm m p (r .count)))) (ne-eqb m 0 (refused-some x above h))
+    ∙ ap (λ (b : Bool). cond b (ahead (stepAt t (o .program) p r ∷ []) (way n t (after t o outer p r))) (there (Alarm m p (r .count)))) (ne-eqb m 0 (refused-some x above h))
 refused-way t (early {o} {outer} {r} e) n = ap (atFound (λ z. way n t z) t o outer r) e
 
 over-way : (t : Task) (s : Standing) → s .programs ≡ [] → (n : ℕ) → way (suc n) t s ≡ there (Complete (s .run .count))

@@ -18,7 +18,7 @@ use Rattle.ahead.specs.declared.Frame.{Frame}
 use Rattle.ahead.specs.declared.ProgramAt.{ProgramAt}
 use Rattle.ahead.specs.declared.Onward.{Onward}
 use Rattle.ahead.specs.declared.Onward.the-variants.{On, Call, Jump, Return, End, Stop}
-use Rattle.steps.specs.Steps.{Task, Step, blockOn, onwardOf, alarmBy, alarmAt, runAfter, doneAt, recordsAt, Taken, takenBy, takenFrom}
+use Rattle.steps.specs.Steps.{Task, Step, blockOn, onwardOf, alarmBy, alarmAt, runAfter, doneAt, recordsAt, originAt, Taken, takenBy, takenFrom}
 use Rattle.steps.specs.declared.step.Run.{Run}
 use Rattle.steps.specs.declared.step.StepDone.{StepDone}
 use Rattle.steps.proofs.Stepping.{some-left}
@@ -31,29 +31,29 @@ use Rattle.alarmed.specs.Walking.{stepAt}
 -- ---- what comes of a step from the frame's place on
 module _ (t : Task) (f : Frame) (r : Run) where
   abbrev pub early : Taken
-  early = record { done = record { onward = Stop wrongEnd (f .program .line); run = r; after = f .at }; step = record { place = f .program .line; before = r; records = [] } }
+  early = record { done = record { onward = Stop wrongEnd (f .program .line); run = r; after = f .at }; step = record { place = f .program .line; origin = originAt (t .tape) (onto f (f .program .line)); before = r; records = [] } }
 
   abbrev pub refusedAt : ℕ → Taken
   refusedAt p =
       let g = onto f p in
-      record { done = record { onward = Stop (alarmAt t g r) p; run = r; after = textAt (t .tape) p .after }; step = record { place = p; before = r; records = recordsAt t g r } }
+      record { done = record { onward = Stop (alarmAt t g r) p; run = r; after = textAt (t .tape) p .after }; step = record { place = p; origin = originAt (t .tape) g; before = r; records = recordsAt t g r } }
 
   abbrev pub takenAt : ℕ → Taken
-  takenAt p = record { done = record { onward = onwardOf t (onto f p) r; run = runAfter t p r; after = textAt (t .tape) p .after }; step = stepAt t p r }
+  takenAt p = record { done = record { onward = onwardOf t (onto f p) r; run = runAfter t p r; after = textAt (t .tape) p .after }; step = stepAt t (f .program) p r }
 
   module _ (P : Taken → Type 0) (ends : firstBlock (lines (t .tape) (f .at)) ≡ Nowhere → P early)
       (refuses : (p : ℕ) → firstBlock (lines (t .tape) (f .at)) ≡ At p → (alarmAt t (onto f p) r ≡ 0 → ⊥) → P (refusedAt p))
       (takes : (p : ℕ) → firstBlock (lines (t .tape) (f .at)) ≡ At p → alarmAt t (onto f p) r ≡ 0 → P (takenAt p)) where
     by-alarm : (p : ℕ) → firstBlock (lines (t .tape) (f .at)) ≡ At p → (a : ℕ) → alarmAt t (onto f p) r ≡ a → P (takenBy t f r (At p))
-    unfolding takenBy
+    unfolding takenBy originAt
     by-alarm p e zero h =
         let g = onto f p in
-        let same : takenBy t f r (At p) ≡ takenAt p = λ i. record { done = done-free t g r h i; step = record { place = p; before = r; records = records-free t g r h i } } in
+        let same : takenBy t f r (At p) ≡ takenAt p = λ i. record { done = done-free t g r h i; step = record { place = p; origin = originAt (t .tape) g; before = r; records = records-free t g r h i } } in
         subst P (sym same) (takes p e h)
     by-alarm p e (suc a) h =
         let g = onto f p in
         let some : alarmAt t g r ≡ 0 → ⊥ = λ z. omega (arith, h, z) in
-        let same : takenBy t f r (At p) ≡ refusedAt p = λ i. record { done = done-alarm t g r some i; step = record { place = p; before = r; records = recordsAt t g r } } in
+        let same : takenBy t f r (At p) ≡ refusedAt p = λ i. record { done = done-alarm t g r some i; step = record { place = p; origin = originAt (t .tape) g; before = r; records = recordsAt t g r } } in
         subst P (sym same) (refuses p e some)
 
     by-found : (g : Found) → firstBlock (lines (t .tape) (f .at)) ≡ g → P (takenBy t f r g)

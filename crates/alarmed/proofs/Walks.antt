@@ -75,7 +75,7 @@ walks-then t os mid back r x k c f = walks-back t os mid back r x k (x .outcome 
 -- ---- where a block leads that is not refused
 -- the frame's program as it is open, to run so many times more
 abbrev pub openIn : Frame → ℕ → Open
-openIn f again = record { program = f .program .line; at = f .at; again = again }
+openIn f again = record { program = f .program; at = f .at; again = again }
 
 module _ (t : Task) (f : Frame) (again : ℕ) (outer : List Open) (after : ℕ) where
   abbrev o : Open
@@ -85,8 +85,8 @@ module _ (t : Task) (f : Frame) (again : ℕ) (outer : List Open) (after : ℕ) 
   abbrev Leads : Onward → List Open → Type 0
   Leads On os = os ≡ moved o after ∷ outer
   Leads (Jump p) os = os ≡ moved o p ∷ outer
-  Leads (Call p times) os = (os ≡ runs t (p .line) times (moved o after ∷ outer)) × (f .«calls_left» ≡ 0 → ⊥)
-  Leads Return os = os ≡ runs t (f .program .line) again outer
+  Leads (Call p times) os = (os ≡ runs t p times (moved o after ∷ outer)) × (f .«calls_left» ≡ 0 → ⊥)
+  Leads Return os = os ≡ runs t (f .program) again outer
   Leads End os = os ≡ []
   Leads (Stop alarm place) os = ⊥
 
@@ -101,11 +101,11 @@ module _ (t : Task) (f : Frame) (again : ℕ) (outer : List Open) (after : ℕ) 
   unfolding alarmBy
   refuses n place some e = some e
 
-  found-leads : (g : Found) (n times : ℕ) → Fine (calledAt g n f times) (walksInto t g times (moved o after ∷ outer))
+  found-leads : (g : Found) (n times : ℕ) → Fine (calledAt g n f times) (walksInto t g n times (moved o after ∷ outer))
   unfolding calledAt walksInto
   found-leads Nowhere n times = refuses _ _ (λ e. omega (arith, e))
   found-leads (At p) n times =
-      either (λ w. Fine w (runs t p times (moved o after ∷ outer))) (eqb (f .«calls_left») 0) (Stop tooDeep (f .at)) (Call (record { number = n; line = p }) times) (λ _. refuses _ _ (λ e. omega (arith, e)))
+      either (λ w. Fine w (runs t (record { number = n; line = p }) times (moved o after ∷ outer))) (eqb (f .«calls_left») 0) (Stop tooDeep (f .at)) (Call (record { number = n; line = p }) times) (λ _. refuses _ _ (λ e. omega (arith, e)))
       (λ e _. (refl, eqb-false (f .«calls_left») 0 e))
 
   jump-leads : (g : Found) → Fine (jumpedTo g f) (jumped g o outer)
@@ -118,11 +118,11 @@ module _ (t : Task) (f : Frame) (again : ℕ) (outer : List Open) (after : ℕ) 
   looked-leads asks.On = λ _. refl
   looked-leads (asks.Call n times) =
       let g = findProgram n (lines (t .tape) (t .first)) in
-      either (λ w. Fine w (walksInto t g times (moved o after ∷ outer))) (ltb n (t .settings .«lowest_subroutine») || ltb highestSubroutine n) (Stop programMissing (f .at)) (calledAt g n f times)
+      either (λ w. Fine w (walksInto t g n times (moved o after ∷ outer))) (ltb n (t .settings .«lowest_subroutine») || ltb highestSubroutine n) (Stop programMissing (f .at)) (calledAt g n f times)
       (λ _. refuses _ _ (λ e. omega (arith, e))) (λ _. found-leads g n times)
   looked-leads (asks.Jump n) = jump-leads (blockOfProgram n (t .tape) (f .program .line))
   looked-leads asks.Return =
-      either (λ w. Fine w (runs t (f .program .line) again outer)) (eqb (f .«calls_left») mostCalls) (Stop wrongEnd (f .at)) Return (λ _. refuses _ _ (λ e. omega (arith, e))) (λ _ _. refl)
+      either (λ w. Fine w (runs t (f .program) again outer)) (eqb (f .«calls_left») mostCalls) (Stop wrongEnd (f .at)) Return (λ _. refuses _ _ (λ e. omega (arith, e))) (λ _ _. refl)
   looked-leads asks.End =
       either (λ w. Fine w []) (eqb (f .«calls_left») mostCalls) End (Stop wrongEnd (f .at)) (λ _ _. refl) (λ _. refuses _ _ (λ e. omega (arith, e)))
 
@@ -136,13 +136,13 @@ module _ (t : Task) (f : Frame) (again : ℕ) (outer : List Open) (after : ℕ) 
 -- ---- the blocks of a program, with its calls
 module _ (t : Task) (calls : ℕ) (call : ProgramAt → ℕ → Run → Ran) (call-few : (p : ProgramAt) (times n : ℕ) (r : Run) → r .«blocks_left» ≤ n → call p times r .outcome .run .«blocks_left» ≤ n)
     (call-walks : (calls ≡ 0 → ⊥) → (p : ProgramAt) (times : ℕ) (back : List Open) → length back + calls ≡ suc mostCalls → (r : Run) → r .«blocks_left» ≤ blocksInAll
-    → Walks t (runs t (p .line) times back) back r (call p times r)) where
+    → Walks t (runs t p times back) back r (call p times r)) where
   module _ (again : ℕ) (outer : List Open) (deep : length outer + calls ≡ mostCalls) where
     -- after a step that was done
     went : (f : Frame) → f .«calls_left» ≡ calls → (left : ℕ) (k : ℕ → Run → Ran)
-        → ((p : ℕ) (q : Run) → q .«blocks_left» ≤ left → Walks t (openIn (onto f p) again ∷ outer) (runs t (f .program .line) again outer) q (k p q))
+        → ((p : ℕ) (q : Run) → q .«blocks_left» ≤ left → Walks t (openIn (onto f p) again ∷ outer) (runs t (f .program) again outer) q (k p q))
         → (w : Onward) (os : List Open) (r q : Run) (after : ℕ) (st : Step) → q .«blocks_left» ≤ left → q .«blocks_left» ≤ blocksInAll → Leads t f again outer after w os
-        → Walk t (standing (openIn f again ∷ outer) r) (st ∷ []) (standing os q) → Walks t (openIn f again ∷ outer) (runs t (f .program .line) again outer) r (goOn call k w q after st)
+        → Walk t (standing (openIn f again ∷ outer) r) (st ∷ []) (standing os q) → Walks t (openIn f again ∷ outer) (runs t (f .program) again outer) r (goOn call k w q after st)
     unfolding goOn
     went f same left k g On os r q after st few begun is a =
         walks-on t _ (openIn (onto f after) again ∷ outer) _ r q (st ∷ []) (k after q) (subst (λ (z : List Open). Walk t (standing (openIn f again ∷ outer) r) (st ∷ []) (standing z q)) is a) (g after q few)
@@ -151,8 +151,8 @@ module _ (t : Task) (calls : ℕ) (call : ProgramAt → ℕ → Run → Ran) (ca
     went f same left k g (Call p times) os r q after st few begun is a =
         let back = openIn (onto f after) again ∷ outer in
         let x = call p times q in
-        walks-on t _ (runs t (p .line) times back) _ r q (st ∷ []) (andThen x (k after)) (subst (λ (z : List Open). Walk t (standing (openIn f again ∷ outer) r) (st ∷ []) (standing z q)) (is .0) a)
-        (walks-then t (runs t (p .line) times back) back (runs t (f .program .line) again outer) q x (k after)
+        walks-on t _ (runs t p times back) _ r q (st ∷ []) (andThen x (k after)) (subst (λ (z : List Open). Walk t (standing (openIn f again ∷ outer) r) (st ∷ []) (standing z q)) (is .0) a)
+        (walks-then t (runs t p times back) back (runs t (f .program) again outer) q x (k after)
         (call-walks (λ e. is .1 (same ∙ e)) p times back (omega (arith, deep)) q begun) (g after (x .outcome .run) (call-few p times left q few)))
     went f same left k g Return os r q after st few begun is a = subst (λ (z : List Open). Walk t (standing (openIn f again ∷ outer) r) (st ∷ []) (standing z q)) is a
     went f same left k g End os r q after st few begun is a = subst (λ (z : List Open). Walk t (standing (openIn f again ∷ outer) r) (st ∷ []) (standing z q)) is a
@@ -160,29 +160,29 @@ module _ (t : Task) (calls : ℕ) (call : ProgramAt → ℕ → Run → Ran) (ca
 
     -- a refused block, or none
     halted : (f : Frame) (k : ℕ → Run → Ran) (alarm place : ℕ) (r : Run) (after : ℕ) (st : Step) → RunRefused t (standing (openIn f again ∷ outer) r) alarm place
-        → Walks t (openIn f again ∷ outer) (runs t (f .program .line) again outer) r (goOn call k (Stop alarm place) r after st)
+        → Walks t (openIn f again ∷ outer) (runs t (f .program) again outer) r (goOn call k (Stop alarm place) r after st)
     unfolding goOn
     halted f k alarm place r after st h = record { programs = openIn f again ∷ outer; walk = stay; refused = h }
 
     pub blocks-walk : (fuel : ℕ) (f : Frame) → f .«calls_left» ≡ calls → (r : Run) → r .«blocks_left» < fuel → r .«blocks_left» ≤ blocksInAll
-        → Walks t (openIn f again ∷ outer) (runs t (f .program .line) again outer) r (blocks call t fuel f r)
+        → Walks t (openIn f again ∷ outer) (runs t (f .program) again outer) r (blocks call t fuel f r)
     unfolding blocks onward
     blocks-walk zero f same r lasts few = absurd (omega (arith, lasts))
     blocks-walk (suc fuel) f same r lasts few =
         let k : ℕ → Run → Ran = λ p s. blocks call t fuel (onto f p) s in
         let known : length outer + f .«calls_left» ≡ mostCalls = ap (λ (n : ℕ). length outer + n) same ∙ deep in
-        by-taken t f r (λ x. Walks t (openIn f again ∷ outer) (runs t (f .program .line) again outer) r (onward call k x)) (λ e. halted f k wrongEnd (f .program .line) r _ _ (early e))
+        by-taken t f r (λ x. Walks t (openIn f again ∷ outer) (runs t (f .program) again outer) r (onward call k x)) (λ e. halted f k wrongEnd (f .program .line) r _ _ (early e))
         (λ p e some. halted f k (alarmAt t (onto f p) r) p r _ _ (block e (block-refused t (onto f p) (length outer) known r some)))
         (λ p e free.
         let g = onto f p in
         let q = runAfter t p r in
         let fewer = one-fewer t g r free in
         went f same (q .«blocks_left») k (λ at s h. blocks-walk fuel (onto f at) same s (omega (arith, lasts, fewer, h)) (omega (arith, few, fewer, h))) (onwardOf t g r) _ r q
-        (lineAt (t .tape) p .after) (stepAt t p r) (omega arith) (omega (arith, few, fewer)) (onward-leads t g again outer (lineAt (t .tape) p .after) r (free-asked t g r free))
+        (lineAt (t .tape) p .after) (stepAt t (f .program) p r) (omega arith) (omega (arith, few, fewer)) (onward-leads t g again outer (lineAt (t .tape) p .after) r (free-asked t g r free))
         (step e (block-passes t g (length outer) known r free) stay))
 
 -- ---- repeats and calls
-module _ (t : Task) (p : ℕ) (back : List Open) (one : Run → Ran) (one-few : (n : ℕ) (r : Run) → r .«blocks_left» ≤ n → one r .outcome .run .«blocks_left» ≤ n)
+module _ (t : Task) (p : ProgramAt) (back : List Open) (one : Run → Ran) (one-few : (n : ℕ) (r : Run) → r .«blocks_left» ≤ n → one r .outcome .run .«blocks_left» ≤ n)
     (one-walks : (again : ℕ) (r : Run) → r .«blocks_left» ≤ blocksInAll → Walks t (opened t p again ∷ back) (runs t p again back) r (one r)) where
   repeated-walk : (times : ℕ) (r : Run) → r .«blocks_left» ≤ blocksInAll → Walks t (runs t p times back) back r (repeated one times r)
   unfolding repeated runs
@@ -195,18 +195,18 @@ unfolding enough
 begun-enough n h = omega (arith, h)
 
 called-walks : (t : Task) (c : ℕ) → (c ≡ 0 → ⊥) → (p : ProgramAt) (times : ℕ) (back : List Open) → length back + c ≡ suc mostCalls → (r : Run) → r .«blocks_left» ≤ blocksInAll
-    → Walks t (runs t (p .line) times back) back r (called t c p times r)
+    → Walks t (runs t p times back) back r (called t c p times r)
 unfolding called
 called-walks t zero some p times back deep r few = absurd (some refl)
 called-walks t (suc c) some p times back deep r few =
     let call : ProgramAt → ℕ → Run → Ran = λ q m u. called t c q m u in
     let one : Run → Ran = λ s. blocks call t enough (entry t p c) s in
-    repeated-walk t (p .line) back one (λ n s h. blocks-few t call (λ q m k u h. called-few t c q m k u h) enough (entry t p c) n s h)
+    repeated-walk t p back one (λ n s h. blocks-few t call (λ q m k u h. called-few t c q m k u h) enough (entry t p c) n s h)
     (λ again s h. blocks-walk t c call (λ q m n u h. called-few t c q m n u h) (λ e q m os d u h. called-walks t c e q m os d u h) again back (omega (arith, deep)) enough (entry t p c) refl s
     (begun-enough (s .«blocks_left») h) h) times r few
 
 -- A PROGRAM'S RUN, the main one: from its beginning
-pub program-walks : (t : Task) (p : ProgramAt) (r : Run) → r .«blocks_left» ≤ blocksInAll → Walks t (opened t (p .line) 0 ∷ []) [] r (programRun t p mostCalls r)
+pub program-walks : (t : Task) (p : ProgramAt) (r : Run) → r .«blocks_left» ≤ blocksInAll → Walks t (opened t p 0 ∷ []) [] r (programRun t p mostCalls r)
 unfolding runs
 program-walks t p r few =
     blocks-walk t mostCalls (called t mostCalls) (λ q m n u h. called-few t mostCalls q m n u h) (λ e q m os d u h. called-walks t mostCalls e q m os d u h) 0 [] refl enough (entry t p mostCalls) refl r

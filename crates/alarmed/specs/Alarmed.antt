@@ -18,7 +18,7 @@ use Rattle.steps.specs.Steps.{Task, taskOf, Step}
 use Rattle.answers.specs.Answers.{startOf}
 use Rattle.answers.specs.declared.Answer.{Answer}
 use Rattle.answers.specs.declared.Answer.the-variants.{Complete, Alarm}
-use Rattle.interpreter.specs.Answers.{Result, interpretation}
+use Rattle.interpreter.specs.Answers.{Result, mainAt, interpretation}
 use Rattle.alarmed.specs.Order.{Passes, Refused}
 use Rattle.alarmed.specs.Tests.{Input, inputOrder, Line, isEntry, lineOrder}
 use Rattle.alarmed.specs.Walking.{opened, Standing, standing, Walk, RunRefused}
@@ -80,7 +80,7 @@ abbrev pub mainIn : Input → ℕ → Found
 mainIn i end = findProgram (i .settings .main) (lines (take end (i .tape)) (firstOf (i .tape)))
 
 abbrev pub begins : Input → ℕ → ℕ → Standing
-begins i end main = standing (opened (taskTo i end) main 0 ∷ []) (startOf (i .settings))
+begins i end main = standing (opened (taskTo i end) (mainAt (i .settings) main) 0 ∷ []) (startOf (i .settings))
 
 -- ---- WHAT AN ANSWER STANDS ON: it is one of these, with the steps that were done
 pub data Stands (i : Input) : Answer → List Step → Type 0 where

@@ -7,15 +7,15 @@ use Prim.Native.Nat.{ℕ, _<_}
 use lib.Dec.{T, eqb, eqb→eq}
 use lib.IntN.{ℤ, natAbs}
 use Rattle.letters.specs.Letters.{percent, letterN, letterO}
-use Rattle.addresses.specs.Words.{formOf, lacksPoint}
+use Rattle.addresses.specs.Words.{formOf, nextWord, lacksPoint}
 use Rattle.addresses.specs.declared.Word.{Word}
 use Rattle.addresses.specs.declared.NextWord.{NextWord}
 use Rattle.addresses.specs.declared.NextWord.the-variants as next
 use Rattle.numbers.proofs.Bounds.{Below}
-use Rattle.addresses.proofs.Within.{Within, WordIn, NextWithin}
+use Rattle.addresses.proofs.Within.{Within, WordIn, NextWithin, word-within}
 use Rattle.block.specs.declared.words.Head.{Head}
 use Rattle.block.specs.declared.words.Head.the-variants.{Blank, ProgramLine, BlockLine, Other}
-use Rattle.block.specs.Words.{isProgramAddress, headBy, lineBy}
+use Rattle.block.specs.Words.{isProgramAddress, headBy, headOfNext, headOf, lineBy}
 
 -- the number of a head
 abbrev pub HeadIn : Head → Type 0
@@ -53,3 +53,13 @@ pub line-small : (s : List ℕ) (n : NextWord) → NextWithin n → HeadIn (line
 line-small s next.Fault i = tt
 line-small s next.End i = tt
 line-small s (next.Word w end) i = head-small w i
+
+-- however the line goes on
+pub head-in : (s : List ℕ) → HeadIn (headOf s)
+unfolding headOf
+head-in s = by (nextWord s 0) (word-within s 0)
+  where
+    by : (n : NextWord) → NextWithin n → HeadIn (headOfNext n)
+    by next.Fault i = tt
+    by next.End i = tt
+    by (next.Word w end) i = head-small w i

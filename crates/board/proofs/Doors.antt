@@ -16,6 +16,7 @@ use Rattle.answers.specs.declared.Answer.{Answer}
 use Rattle.answers.specs.declared.Answer.the-variants.{Alarm}
 use Rattle.interpreter.proofs.Whole.{none-begun}
 use Rattle.demands.specs.Demands.{Owed, OwedList, TableAfter, Each, EachFrom, EveryCycle, CutIn, Threads, ThreadsIn}
+use Rattle.demands.specs.Origins.{BlockNamed}
 use Rattle.demands.specs.Placed.{acceptedIn}
 use Rattle.demands.specs.Strokes.{Deepens, DeepensIn}
 use Rattle.demands.specs.Arcs.{ArcsOwed, ArcsOwedIn, Rounds, RoundsIn}
@@ -24,9 +25,10 @@ use Rattle.demands.proofs.Placed.{none-after, table-after}
 use Rattle.demands.proofs.Demands.{demand-three, thread-promise, demand-three-in-buffer, thread-promise-in-buffer}
 use Rattle.demands.proofs.Strokes.{depth-law, depth-law-in-buffer}
 use Rattle.demands.proofs.Arcs.{none-owed as no-arcs, none-owed-in as no-arcs-in, arc-promise, arc-promise-in-buffer, arcs-written, arcs-written-in-buffer}
+use Rattle.demands.proofs.EveryBlock.{every-block-named}
 use Rattle.alarmed.proofs.Alone.{alarms-stand}
 use Rattle.settings.specs.Row.{unfit, settingsOf}
-use Rattle.board.specs.Door.{atDoor, answerAt, placesAt, bufferAt, Packed, acceptedAt, DemandOneAtDoor, DemandTwoAtDoor, inputAt, AlarmsStandAtDoor, taskAt, DemandThreeAtDoor, DemandThreeInBufferAtDoor, ThreadPromiseAtDoor, ThreadPromiseInBufferAtDoor, DepthLawAtDoor, DepthLawInBufferAtDoor, ArcPromiseAtDoor, ArcPromiseInBufferAtDoor, ArcsWrittenAtDoor, ArcsWrittenInBufferAtDoor, Fits}
+use Rattle.board.specs.Door.{atDoor, answerAt, placesAt, bufferAt, Packed, acceptedAt, DemandOneAtDoor, DemandTwoAtDoor, EveryBlockNamedAtDoor, inputAt, AlarmsStandAtDoor, taskAt, DemandThreeAtDoor, DemandThreeInBufferAtDoor, ThreadPromiseAtDoor, ThreadPromiseInBufferAtDoor, DepthLawAtDoor, DepthLawInBufferAtDoor, ArcPromiseAtDoor, ArcPromiseInBufferAtDoor, ArcsWrittenAtDoor, ArcsWrittenInBufferAtDoor, Fits}
 
 -- ---- the numbers of an answer, as they stand in one
 pub packs : (a : Answer) (r : ℕ) → Fits a → numberOf a < 256 → r ≡ countOf a + 65_536 * (placeOf a + 65_536 * numberOf a) → Packed a r
@@ -139,6 +141,10 @@ module _ (tape : List ℕ) (table numbers : List ℤ) (places b : List ℕ) wher
   pub depth-law-in-buffer-at-door : DepthLawInBufferAtDoor tape table numbers (length places) b
   unfolding EachFrom
   depth-law-in-buffer-at-door = at-door (λ x. EachFrom (DeepensIn t (laidBy x b)) 0 (x .steps)) tt (depth-law-in-buffer tape table (settingsOf numbers) (length places) b)
+
+  pub every-block-named-at-door : EveryBlockNamedAtDoor tape table numbers (length places) b
+  unfolding EachFrom
+  every-block-named-at-door = at-door (λ x. EachFrom (BlockNamed t (laidBy x b)) 0 (x .steps)) tt (every-block-named tape table (settingsOf numbers) (length places) b)
 
   pub arc-promise-at-door : ArcPromiseAtDoor tape table numbers (length places) (length b)
   arc-promise-at-door = at-door (ArcsOwed (settingsOf numbers)) (no-arcs (settingsOf numbers) badSettings 0) (arc-promise tape table (settingsOf numbers) (length places) (length b))

@@ -12,6 +12,7 @@ use Rattle.interpreter.specs.Answers.{Result, refused, interpretation, placesOf
 use Rattle.answers.specs.declared.Answer.{Answer}
 use Rattle.steps.specs.Steps.{Task}
 use Rattle.demands.specs.Demands.{Owed, OwedList, TableAfter, Each, EachFrom, EveryCycle, CutIn, Threads, ThreadsIn, task}
+use Rattle.demands.specs.Origins.{BlockNamed}
 use Rattle.demands.specs.Placed.{acceptedIn}
 use Rattle.demands.specs.Strokes.{Deepens, DeepensIn}
 use Rattle.demands.specs.Arcs.{ArcsOwed, ArcsOwedIn, Rounds, RoundsIn}
@@ -52,6 +53,11 @@ DemandOneAtDoor tape table numbers places b =
 
 abbrev pub DemandTwoAtDoor : List ℕ → List ℤ → List ℤ → ℕ → List ℕ → Type 0
 DemandTwoAtDoor tape table numbers size b = OwedList (atDoor tape table numbers size (length b)) b
+
+-- of the program and the block at the end of every record
+abbrev pub EveryBlockNamedAtDoor : List ℕ → List ℤ → List ℤ → ℕ → List ℕ → Type 0
+EveryBlockNamedAtDoor tape table numbers size b =
+    EachFrom (BlockNamed (task tape table (settingsOf numbers) size (length b)) (bufferAt tape table numbers size b)) 0 (atDoor tape table numbers size (length b) .steps)
 
 -- where alarms come. The door's own alarm 1 goes before all else; behind it the answer is that of the interpreter, with the settings that the row holds
 abbrev pub inputAt : List ℕ → List ℤ → List ℤ → ℕ → ℕ → Input

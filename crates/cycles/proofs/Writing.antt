@@ -8,29 +8,28 @@ use lib.ListN.{length, length-append}
 use Rattle.whole.specs.Bytes.{laid}
 use Rattle.whole.proofs.Laying.{laid-nil, laid-on, length-laid}
 use Rattle.moves.specs.declared.record.Record.{Record}
-use Rattle.moves.specs.Form.{recordSize, recordBytes, rowBytes}
-use Rattle.moves.proofs.Rows.{row-one}
-use Rattle.moves.proofs.OneReading.{length-row, row-append}
+use Rattle.moves.specs.declared.record.Origin.{Origin}
+use Rattle.moves.specs.Form.{recordSize, recordBytes, listed, rowFrom}
+use Rattle.moves.proofs.Rows.{length-from, from-none, from-one, from-append}
 use Rattle.cycles.specs.declared.cursor.Cursor.{Cursor}
 use Rattle.cycles.specs.Cursor.{restOf}
 
--- some of what is left of c is written from the place `first` on, `now` has the others, and the next is due at the place `at`
-pub record Written (b₀ : List ℕ) (first : ℕ) (c : Cursor) (b : List ℕ) (now : Cursor) (at : ℕ) : Type 0 where
+-- some of what is left of c is written from the place `first` on, as it came from the block o, `now` has the others, and the next is due at the place `at`
+pub record Written (o : Origin) (b₀ : List ℕ) (first : ℕ) (c : Cursor) (b : List ℕ) (now : Cursor) (at : ℕ) : Type 0 where
   pub done : List Record
   pub same : restOf c ≡ done ++ restOf now
   pub place : at ≡ first + recordSize * length done
-  pub buffer : b ≡ laid b₀ first (rowBytes done)
+  pub buffer : b ≡ laid b₀ first (rowFrom o done)
 
-pub none-written : (b₀ : List ℕ) (first : ℕ) (c : Cursor) → Written b₀ first c b₀ c first
-unfolding rowBytes
-none-written b₀ first c = record { done = []; same = refl; place = omega arith; buffer = sym (laid-nil b₀ first) }
+pub none-written : (o : Origin) (b₀ : List ℕ) (first : ℕ) (c : Cursor) → Written o b₀ first c b₀ c first
+none-written o b₀ first c = record { done = []; same = refl; place = omega arith; buffer = sym (ap (laid b₀ first) (from-none o) ∙ laid-nil b₀ first) }
 
-module _ {b₀ : List ℕ} {first : ℕ} {c : Cursor} (room : first + recordSize * length (restOf c) ≤ length b₀) {b : List ℕ} {now : Cursor} {at : ℕ} (w : Written b₀ first c b now at) where
+module _ {o : Origin} {b₀ : List ℕ} {first : ℕ} {c : Cursor} (room : first + recordSize * length (restOf c) ≤ length b₀) {b : List ℕ} {now : Cursor} {at : ℕ} (w : Written o b₀ first c b now at) where
   count : length (restOf c) ≡ length (w .done) + length (restOf now)
   count = ap length (w .same) ∙ length-append (w .done) (restOf now)
 
   pub written-length : length b ≡ length b₀
-  written-length = ap length (w .buffer) ∙ length-laid b₀ first (rowBytes (w .done)) (omega (arith, length-row (w .done), count, room))
+  written-length = ap length (w .buffer) ∙ length-laid b₀ first (rowFrom o (w .done)) (omega (arith, length-from o (w .done), count, room))
 
   -- one record more
   module _ (r : Record) (rest : Cursor) (e : restOf now ≡ r ∷ restOf rest) where
@@ -43,15 +42,15 @@ module _ {b₀ : List ℕ} {first : ℕ} {c : Cursor} (room : first + recordSize
     pub written-room : at + recordSize ≤ length b
     written-room = omega (arith, written-length, w .place, count, one, room)
 
-    pub one-written : {u : List ℕ} → u ≡ laid b at (recordBytes r) → Written b₀ first c u rest (at + recordSize)
+    pub one-written : {u : List ℕ} → u ≡ laid b at (recordBytes (listed o r)) → Written o b₀ first c u rest (at + recordSize)
     one-written h = record {
       done = w .done ++ (r ∷ []);
       same = w .same ∙ ap (λ (l : List Record). w .done ++ l) e ∙ sym (append-assoc (w .done) (r ∷ []) (restOf rest));
       place = omega (arith, w .place, length-append (w .done) (r ∷ []));
-      buffer = h ∙ (λ i. laid (w .buffer i) at (row-one r i))
-          ∙ laid-on b₀ first (rowBytes (w .done)) (rowBytes (r ∷ [])) at (omega (arith, w .place, length-row (w .done))) (omega (arith, w .place, count, one, room))
-          ∙ ap (laid b₀ first) (sym (row-append (w .done) (r ∷ [])));
+      buffer = h ∙ (λ i. laid (w .buffer i) at (from-one o r i))
+          ∙ laid-on b₀ first (rowFrom o (w .done)) (rowFrom o (r ∷ [])) at (omega (arith, w .place, length-from o (w .done))) (omega (arith, w .place, count, one, room))
+          ∙ ap (laid b₀ first) (sym (from-append o (w .done) (r ∷ [])));
     }
 
-  pub all-written : restOf now ≡ [] → b ≡ laid b₀ first (rowBytes (restOf c))
-  all-written e = w .buffer ∙ ap (λ (l : List Record). laid b₀ first (rowBytes l)) (sym (w .same ∙ ap (λ (l : List Record). w .done ++ l) e ∙ append-nil (w .done)))
+  pub all-written : restOf now ≡ [] → b ≡ laid b₀ first (rowFrom o (restOf c))
+  all-written e = w .buffer ∙ ap (λ (l : List Record). laid b₀ first (rowFrom o l)) (sym (w .same ∙ ap (λ (l : List Record). w .done ++ l) e ∙ append-nil (w .done)))

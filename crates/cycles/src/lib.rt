@@ -5,6 +5,7 @@ pub mod cursor;
 use crate::cursor::Cursor;
 use drilling::bore::Bore;
 use grooving::groove::Groove;
+use moves::record::Origin;
 use settings::limits::Limits;
 use threading::thread::Thread;
 use turning::cycle::Turning;
@@ -13,7 +14,7 @@ ghost use mathlib.Core.Bool.{false};
 ghost use Prim.Native.Nat.{_+_, _*_, _≤_};
 ghost use lib.ListN.{length};
 ghost use Rattle.whole.specs.Bytes.{laid};
-ghost use Rattle.moves.specs.Form.{recordSize, recordStart, rowBytes};
+ghost use Rattle.moves.specs.Form.{recordSize, recordStart, rowFrom};
 ghost use Rattle.axes.specs.Limits.{anyOutside};
 ghost use Rattle.cycles.specs.Cycle.{wrong, leastFeed, records};
 ghost use Rattle.cycles.specs.Known.{Known};
@@ -83,27 +84,28 @@ pub fn record_count(c: Cycle) -> u64
     }
 }
 
-// Writes the records of a cycle, from record k on. Its lengths and its room were asked for before (alarms 19 and 20).
-pub fn put_cycle(buf: &mut [u8], k: usize, c: Cycle)
+// Writes the records of a cycle that a block has opened, from record k on. Its lengths and its room were asked for before (alarms 19 and 20).
+pub fn put_cycle(buf: &mut [u8], k: usize, c: Cycle, origin: Origin)
     requires { ⌜ (wrong c ≡ false) × Known c × (recordStart (k + length (records c)) ≤ length (now buf)) ⌝ }
-    ensures { λ _. ⌜ now (buf .exit) ≡ laid (now (buf .entry)) (recordStart k) (rowBytes (records c)) ⌝ }
+    ensures { λ _. ⌜ now (buf .exit) ≡ laid (now (buf .entry)) (recordStart k) (rowFrom origin (records c)) ⌝ }
 {
     let opened = cursor::open(c);
     let first = moves::HEADER_SIZE + moves::RECORD_SIZE * k;
-    put_rest(buf, first, opened);
+    put_rest(buf, first, opened, origin);
 }
 
-// Writes all that is left of a cycle, its next record's first byte at `first`: the one loop that writes, whichever cycle it is.
-fn put_rest(buf: &mut [u8], first: usize, c: Cursor)
+// Writes all that is left of a cycle, its next record's first byte at `first`: the one loop that writes, whichever cycle it is. A cycle knows nothing of its block: that is put on
+// here.
+fn put_rest(buf: &mut [u8], first: usize, c: Cursor, origin: Origin)
     requires { ⌜ Sound c × (first + recordSize * length (restOf c) ≤ length (now buf)) ⌝ }
-    ensures { λ _. ⌜ now (buf .exit) ≡ laid (now (buf .entry)) first (rowBytes (restOf c)) ⌝ }
+    ensures { λ _. ⌜ now (buf .exit) ≡ laid (now (buf .entry)) first (rowFrom origin (restOf c)) ⌝ }
 {
     let mut now = c;
     let mut at = first;
     while !cursor::is_over(now) {
         let handed = cursor::next(now);
         let record = handed.record;
-        moves::list::put_record(&mut buf[at..], record);
+        moves::list::put_record(&mut buf[at..], record, origin);
         now = handed.rest;
         at += moves::RECORD_SIZE;
     }

@@ -10,6 +10,7 @@ use lib.Signed.{ltZ}
 use lib.ListN.{length, take}
 use Rattle.whole.specs.Position.{inTable}
 use Rattle.moves.specs.Last.{lastOf}
+use Rattle.moves.specs.Form.{whats}
 use Rattle.moves.specs.Reading.{rowIn}
 use Rattle.moves.specs.declared.record.Record.{Record}
 use Rattle.acts.specs.declared.acting.Kept as keeping
@@ -50,6 +51,7 @@ use Rattle.ahead.specs.declared.ProgramAt.{ProgramAt}
 use Rattle.steps.specs.Steps.{Task, taskOf, Step, blockOn, runAfter}
 use Rattle.steps.specs.declared.step.Run.{Run}
 use Rattle.runners.specs.Runs.{recordsOf, programRun}
+use Rattle.runners.proofs.Going.{listed-whats}
 use Rattle.answers.specs.Answers.{startOf}
 use Rattle.interpreter.specs.Answers.{Result, refused, resultOf, mainAt, interpretation}
 use Rattle.demands.specs.Steps.{Linked}
@@ -174,7 +176,7 @@ unfolding recordsOf
 none-owed set alarm place = arcs-keep none
 
 pub none-owed-in : (set : Settings) (b : List ℕ) (alarm place : ℕ) → ArcsOwedIn set b (refused alarm place)
-unfolding rowIn
+unfolding rowIn whats
 none-owed-in set b alarm place = arcs-keep none
 
 -- ---- of every input
@@ -199,13 +201,15 @@ module _ (tape : List ℕ) (table : List ℤ) (set : Settings) (size : ℕ) wher
   shown : (bytes : ℕ) → Shown (interpretation tape table set size bytes)
   shown bytes =
       every-result (λ _. Shown) tape table set size bytes (λ _ alarm place _ _ _. none-shown alarm place)
-      (λ _ _ w _ first end p on. run-shown (taskOf (take end tape) table (withPoints false set) first bytes) refl (starts-inside table set w) (mainAt set p) on)
+      (λ _ _ w _ first end p on _. run-shown (taskOf (take end tape) table (withPoints false set) first bytes) refl (starts-inside table set w) (mainAt set p) on)
 
   pub arc-promise : (bytes : ℕ) → ArcPromise tape table set size bytes
   arc-promise bytes = arcs-keep (shown bytes .records)
 
   pub arc-promise-in-buffer : (b : List ℕ) → ArcPromiseInBuffer tape table set size b
-  arc-promise-in-buffer b = subst (ArcsKeep (set .limits) (set .x) (set .z)) (sym (all-owed tape table set size b .holds .records)) (arc-promise (length b))
+  arc-promise-in-buffer b =
+      let read = ap whats (all-owed tape table set size b .holds .records) ∙ listed-whats (interpretation tape table set size (length b) .steps) in
+      subst (ArcsKeep (set .limits) (set .x) (set .z)) (sym read) (arc-promise (length b))
 
 -- ---- which arc a block writes
 -- a path word, in the promise's words and in the deed's

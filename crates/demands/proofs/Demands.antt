@@ -58,7 +58,7 @@ module _ (P : Task → State → Block → List Record → Type 0)
 
   pub every-run : (tape : List ℕ) (table : List ℤ) (set : Settings) (size bytes : ℕ) → Shown (task tape table set size bytes) (interpretation tape table set size bytes)
   every-run tape table set size bytes =
-      every-result Shown tape table set size bytes (λ t alarm place _ _ _. none-shown t alarm place) (λ _ _ _ _ first end p on. run-shown (taskOf (take end tape) table (withPoints false set) first bytes) (mainAt set p) on)
+      every-result Shown tape table set size bytes (λ t alarm place _ _ _. none-shown t alarm place) (λ _ _ _ _ first end p on _. run-shown (taskOf (take end tape) table (withPoints false set) first bytes) (mainAt set p) on)
 
 -- what holds of each step holds of it otherwise said
 pub each-from : {A B : Step → ℕ → Type 0} → ((st : Step) (k : ℕ) → A st k → B st k) → (k : ℕ) (sts : List Step) → EachFrom A k sts → EachFrom B k sts

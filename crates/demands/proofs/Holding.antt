@@ -13,9 +13,9 @@ use Rattle.whole.specs.Bytes.{laid}
 use Rattle.whole.proofs.Laying.{laid-nil}
 use Rattle.alarms.specs.Given.{IsAlarm}
 use Rattle.alarms.proofs.Above.{alarm-above, not-eight, given-more}
-use Rattle.moves.specs.Form.{headerSize, recordSize, recordStart, recordLimit, roomOf, headerBytes, rowBytes, listBytes, AllFitting, LawfulList}
-use Rattle.moves.specs.Reading.{recordsIn, countIn, listIn, rowIn}
-use Rattle.moves.specs.declared.record.Record.{Record}
+use Rattle.moves.specs.Form.{headerSize, recordSize, recordStart, recordLimit, roomOf, headerBytes, rowBytes, listBytes, AllListed, LawfulList}
+use Rattle.moves.specs.Reading.{rowAt, countIn, listIn, rowIn}
+use Rattle.moves.specs.declared.record.Listed.{Listed}
 use Rattle.moves.proofs.OneReading.{length-row, length-list, read-after, list-read, one-reading}
 use Rattle.settings.specs.Known.{Table}
 use Rattle.state.specs.Known.{Sound}
@@ -25,32 +25,33 @@ use Rattle.settings.specs.Points.{withPoints}
 use Rattle.settings.specs.declared.control.Settings.{Settings}
 use Rattle.machine.proofs.Running.{done-few}
 use Rattle.moves.proofs.Room.{room-few, room-fits}
-use Rattle.ahead.specs.Ahead.{mostCalls, onto}
+use Rattle.ahead.specs.Ahead.{mostCalls, onto, FoundAt}
 use Rattle.ahead.specs.declared.ProgramAt.{ProgramAt}
-use Rattle.steps.specs.Steps.{Task, taskOf, Step, blockOn, runAfter}
+use Rattle.steps.specs.Steps.{Task, taskOf, Step, listedBy, blockOn, runAfter}
 use Rattle.steps.specs.declared.step.Run.{Run}
 use Rattle.answers.specs.Answers.{countOf, answerBy, startOf, headed}
 use Rattle.interpreter.specs.Answers.{Result, refused, resultOf, mainAt, longestTape, interpretation, answerOf, laidBy}
-use Rattle.runners.specs.Runs.{recordsOf, programRun}
+use Rattle.runners.specs.Runs.{listedOf, programRun}
+use Rattle.runners.proofs.Going.{length-listed}
 use Rattle.answers.specs.declared.Answer.{Answer}
 use Rattle.answers.specs.declared.Answer.the-variants.{Complete, Alarm}
 use Rattle.runners.specs.declared.run.Ending.{Ending}
 use Rattle.runners.specs.declared.run.Ending.the-variants.{Returned, Ended, Stopped}
 use Rattle.demands.specs.Demands.{Front, HoldsAfter, Named, Told, Owed, IsList, DemandOne, DemandTwo}
 use Rattle.demands.specs.Steps.{Linked}
-use Rattle.demands.proofs.Buffers.{AllFit, chain-fits, FrontBy, Form, form}
+use Rattle.demands.proofs.Buffers.{AllFit, listed-fit, chain-fits, FrontBy, Form, form}
 use Rattle.demands.proofs.Cycles.{counted}
 use Rattle.demands.proofs.Demands.{count-by}
-use Rattle.demands.proofs.Fits.{fitting-append}
 use Rattle.demands.proofs.Linked.{StopsOn, free-own, program-leads}
+use Rattle.demands.proofs.Origins.{program-comes}
 use Rattle.demands.proofs.Placed.{table-after}
 use Rattle.demands.proofs.Results.{every-result}
 
 -- ---- along the chain
-all-fit : (sts : List Step) → AllFit sts → AllFitting (recordsOf sts)
-unfolding recordsOf
+all-fit : (sts : List Step) → AllFit sts → AllListed (listedOf sts)
+unfolding listedOf
 all-fit [] f = tt
-all-fit (st ∷ sts) f = fitting-append (st .records) (recordsOf sts) (f .0) (all-fit sts (f .1))
+all-fit (st ∷ sts) f = listed-fit (listedBy st) (listedOf sts) (f .0) (all-fit sts (f .1))
 
 -- no more records than there is room for
 chain-room : (t : Task) (sts : List Step) (r s : Run) → r .count ≤ t .room → Linked t r sts s → s .count ≤ t .room
@@ -81,18 +82,18 @@ front-by points (Complete n) b e h f = f
 front-by points (Alarm alarm place n) b e h f = rw (ne-eqb alarm 0 (λ z. no-list alarm place n n (h .complete z))) f
 
 -- ---- what a buffer of that form holds
-module _ (a : Answer) (b e : List ℕ) (rs : List Record) (f : Form a b e rs) (fits : AllFitting rs) where
+module _ (a : Answer) (b e : List ℕ) (rs : List Listed) (f : Form a b e rs) (fits : AllListed rs) where
   rows : length (f .before ++ rowBytes rs) ≡ recordStart (length rs)
   rows = omega (arith, length-append (f .before) (rowBytes rs), f .size, length-row rs)
 
-  reads : recordsIn e 0 (length rs) ≡ rs
+  reads : rowAt e 0 (length rs) ≡ rs
   unfolding rowBytes
-  reads = ap (λ (x : List ℕ). recordsIn x 0 (length rs)) (f .is) ∙ read-after (f .before) [] rs (f .behind) (f .size) fits
+  reads = ap (λ (x : List ℕ). rowAt x 0 (length rs)) (f .is) ∙ read-after (f .before) [] rs (f .behind) (f .size) fits
 
   holds : (points : Bool) → Named points a → countOf a ≡ length rs → recordStart (length rs) ≤ length b → HoldsAfter a b e rs
   holds points named c room = record {
     counted = c;
-    records = ap (recordsIn e 0) c ∙ reads;
+    records = ap (rowAt e 0) c ∙ reads;
     written = ap (λ (n : ℕ). take (recordSize * n) (drop headerSize e)) c
         ∙ ap (λ (x : List ℕ). take (recordSize * length rs) (drop headerSize x)) (f .is)
         ∙ ap (take (recordSize * length rs)) (drop-at (f .before) (rowBytes rs ++ f .behind) headerSize (f .size))
@@ -113,11 +114,11 @@ module _ (a : Answer) (b e : List ℕ) (rs : List Record) (f : Form a b e rs) (f
 -- ---- of a run
 record Shown (points : Bool) (size : ℕ) (b : List ℕ) (x : Result) : Type 0 where
   one : Owed points size x b
-  two : (count : ℕ) → x .answer ≡ Complete count → IsList count (laidBy x b) (recordsOf (x .steps))
+  two : (count : ℕ) → x .answer ≡ Complete count → IsList count (laidBy x b) (listedOf (x .steps))
 
 -- an alarm before any block is begun
 pub none-owed : (points : Bool) (size : ℕ) (b : List ℕ) (alarm place : ℕ) → IsAlarm points alarm → place ≤ size - 1 → place ≤ longestTape → Owed points size (refused alarm place) b
-unfolding laidBy recordsOf rowBytes rowIn
+unfolding laidBy listedOf rowBytes rowIn
 none-owed points size b alarm place some on near =
     let same : laid b (recordStart 0) [] ≡ b = laid-nil b (recordStart 0) in record {
       holds = record { counted = refl; records = refl; written = refl; front = front-by points (Alarm alarm place 0) b (laid b (recordStart 0) []) (alarm-named points alarm place 0 some) (ap (take headerSize) same); behind = ap (drop (recordStart 0)) same; size = ap length same };
@@ -139,14 +140,14 @@ told-by points Returned n cut size short near on few = record { number = alarm-n
 complete-count : {a : Answer} {count : ℕ} → a ≡ Complete count → countOf a ≡ count
 complete-count e = ap countOf e
 
-list-count : (rs : List Record) (tail : List ℕ) → LawfulList rs → countIn (listBytes rs ++ tail) ≡ length rs
+list-count : (rs : List Listed) (tail : List ℕ) → LawfulList rs → countIn (listBytes rs ++ tail) ≡ length rs
 unfolding listBytes headerBytes
 list-count rs tail f = counts (length rs) (f .few)
   where
     counts : (n : ℕ) → n ≤ recordLimit → n % 256 + 256 * (n / 256 % 256 + 256 * 0) ≡ n
     counts n h = omega (arith, h)
 
-listed : (a : Answer) (b e : List ℕ) (rs : List Record) → Form a b e rs → LawfulList rs → (count : ℕ) → a ≡ Complete count → count ≡ length rs → IsList count e rs
+listed : (a : Answer) (b e : List ℕ) (rs : List Listed) → Form a b e rs → LawfulList rs → (count : ℕ) → a ≡ Complete count → count ≡ length rs → IsList count e rs
 unfolding listBytes
 listed a b e rs f lawful count k c =
     let front : take headerSize e ≡ headerBytes count = subst (λ (x : Answer). FrontBy x b e) k (f .front) in
@@ -164,20 +165,20 @@ listed a b e rs f lawful count k c =
     }
 
 run-shown : (points : Bool) (size : ℕ) (b : List ℕ) → headerSize ≤ length b → (t : Task) → length (t .tape) ≤ size → size ≤ longestTape → t .room ≡ roomOf (length b) → Table (t .table) → InRange (t .settings)
-    → Sound (startOf (t .settings) .state) → (p : ProgramAt) → p .line < length (t .tape) → Shown points size b (resultOf (programRun t p mostCalls (startOf (t .settings))))
+    → Sound (startOf (t .settings) .state) → (p : ProgramAt) → p .line < length (t .tape) → FoundAt (t .tape) (t .first) p → Shown points size b (resultOf (programRun t p mostCalls (startOf (t .settings))))
 unfolding resultOf laidBy listBytes
-run-shown points size b header t short near room known range sound p on =
+run-shown points size b header t short near room known range sound p on found =
     let r = startOf (t .settings) in
     let x = programRun t p mostCalls r in
     let leads = program-leads t p mostCalls r on in
     let l = leads .linked in
-    let rs = recordsOf (x .steps) in
+    let rs = listedOf (x .steps) in
     let n = x .outcome .run .count in
     let a = answerBy (x .outcome .ending) n in
     let e = laid b (recordStart 0) (rowBytes rs) in
     let f : Form a b (headed a e) rs = form b rs header a in
-    let fits : AllFitting rs = all-fit (x .steps) (chain-fits t known range (x .steps) r (x .outcome .run) sound (omega arith) l) in
-    let are : n ≡ 0 + length rs = counted t (x .steps) r (x .outcome .run) l in
+    let fits : AllListed rs = all-fit (x .steps) (chain-fits t known range (x .steps) r (x .outcome .run) sound (omega arith) l (program-comes t p mostCalls r found)) in
+    let are : n ≡ 0 + length rs = omega (arith, counted t (x .steps) r (x .outcome .run) l, length-listed (x .steps)) in
     let many : n ≡ length rs = omega (arith, are) in
     let few : n ≤ t .room = chain-room t (x .steps) r (x .outcome .run) (omega arith) l in
     let inside : recordStart (length rs) ≤ length b = omega (arith, many, room-fits (length b) n header (omega (arith, few, room))) in
@@ -195,9 +196,9 @@ module _ (tape : List ℕ) (table : List ℤ) (set : Settings) (size : ℕ) (b :
   shown : Shown (set .points) (length tape) b (interpretation tape table set size (length b))
   shown =
       every-result (λ _. Shown (set .points) (length tape) b) tape table set size (length b) (λ _ alarm place some on near. none-shown (set .points) (length tape) b alarm place some on near)
-      (λ h near _ k first end p on.
+      (λ h near _ k first end p on found.
       run-shown (set .points) (length tape) b h (taskOf (take end tape) table (withPoints false set) first (length b)) (cut-short end tape) near refl (k .offsets) (k .range)
-      (start-sound (set .x) (set .z) (k .starts .x) (k .starts .z)) (mainAt set p) on)
+      (start-sound (set .x) (set .z) (k .starts .x) (k .starts .z)) (mainAt set p) on found)
 
   pub all-owed : Owed (set .points) (length tape) (interpretation tape table set size (length b)) b
   all-owed = shown .one

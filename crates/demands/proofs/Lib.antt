@@ -5,6 +5,7 @@ pub mod Opening
 pub mod Threads
 pub mod Named
 pub mod Linked
+pub mod Origins
 pub mod Results
 pub mod Cycles
 pub mod Demands
@@ -15,5 +16,6 @@ pub mod Holding
 pub mod Standing
 pub mod Points
 pub mod Strokes
+pub mod EveryBlock
 pub mod DeedKinds
 pub mod Arcs

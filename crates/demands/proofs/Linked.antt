@@ -16,7 +16,7 @@ use Rattle.places.specs.declared.Found.the-variants.{At, Nowhere}
 use Rattle.verdicts.specs.Verdicts.{alarmIn}
 use Rattle.machine.specs.Blocks.{doneRecords}
 use Rattle.finding.specs.Finding.{firstBlock}
-use Rattle.steps.specs.Steps.{Task, Step, blockOn, onwardOf, alarmBy, alarmAt, runAfter, doneAt, recordsAt, takenBy, takenFrom}
+use Rattle.steps.specs.Steps.{Task, Step, blockOn, onwardOf, alarmBy, alarmAt, runAfter, doneAt, recordsAt, originAt, takenBy, takenFrom}
 use Rattle.ahead.specs.declared.ProgramAt.{ProgramAt}
 use Rattle.ahead.specs.declared.Frame.{Frame}
 use Rattle.ahead.specs.declared.Onward.{Onward}
@@ -55,7 +55,7 @@ module _ (t : Task) (g : Frame) (r : Run) where
   after = textAt (t .tape) (g .at) .after
 
   abbrev pub step : Step
-  step = record { place = g .at; before = r; records = recordsAt t g r }
+  step = record { place = g .at; origin = originAt (t .tape) g; before = r; records = recordsAt t g r }
 
   pub done-free : alarmAt t g r ≡ 0 → doneAt t g r ≡ record { onward = onwardOf t g r; run = runAfter t (g .at) r; after = after }
   unfolding doneAt

@@ -22,7 +22,7 @@ use Rattle.places.specs.declared.Found.the-variants.{At, Nowhere}
 use Rattle.reading.specs.declared.read.Read.{Read}
 use Rattle.reading.specs.declared.read.Read.the-variants as read
 use Rattle.settings.specs.declared.control.Settings.{Settings}
-use Rattle.ahead.specs.Ahead.{mostCalls}
+use Rattle.ahead.specs.Ahead.{mostCalls, FoundAt}
 use Rattle.steps.specs.Steps.{Task, taskOf}
 use Rattle.ahead.proofs.Places.{AllIn, lines-in, FoundIn, program-on}
 use Rattle.interpreter.specs.Answers.{Result, refused, resultOf, mainAt, mainBy, mainRun, readThen, longestTape, interpretationBy, interpretation}
@@ -69,16 +69,16 @@ read-on points size tape =
 module _ (P : Task → Result → Type 0) (tape : List ℕ) (table : List ℤ) (set : Settings) (size bytes : ℕ)
     (none : (t : Task) (alarm place : ℕ) → IsAlarm (set .points) alarm → place ≤ length tape - 1 → place ≤ longestTape → P t (refused alarm place))
     (some : headerSize ≤ bytes → length tape ≤ longestTape → settingsWrong table set ≡ false → Right table (withPoints false set) → (first end p : ℕ) → let t = taskOf (take end tape) table (withPoints false set) first bytes in
-    p < length (t .tape) → P t (resultOf (programRun t (mainAt set p) mostCalls (startOf (withPoints false set))))) where
+    p < length (t .tape) → FoundAt (t .tape) first (mainAt set p) → P t (resultOf (programRun t (mainAt set p) mostCalls (startOf (withPoints false set))))) where
   main-is : headerSize ≤ bytes → length tape ≤ longestTape → settingsWrong table set ≡ false → Right table (withPoints false set) → (first end : ℕ) → let t = taskOf (take end tape) table (withPoints false set) first bytes in
-      (f : Found) → FoundIn (length (t .tape)) f → P t (mainBy t f)
+      (f : Found) → findProgram (set .main) (lines (t .tape) first) ≡ f → FoundIn (length (t .tape)) f → P t (mainBy t f)
   unfolding mainBy
-  main-is h n w k first end (At p) on = some h n w k first end p on
-  main-is h n w k first end Nowhere on = none _ _ 0 refl (omega arith) (omega arith)
+  main-is h n w k first end (At p) is on = some h n w k first end p on is
+  main-is h n w k first end Nowhere is on = none _ _ 0 refl (omega arith) (omega arith)
 
   read-is : headerSize ≤ bytes → length tape ≤ longestTape → settingsWrong table set ≡ false → Right table (withPoints false set) → (r : Read) → AlarmOn (set .points) (length tape) r → P (readTask tape table set bytes r) (readThen tape table set bytes r)
   unfolding readThen mainRun
-  read-is h n w k (read.Whole first end) on = main-is h n w k first end (findProgram (set .main) (lines (take end tape) first)) (program-on (set .main) (take end tape) first)
+  read-is h n w k (read.Whole first end) on = main-is h n w k first end (findProgram (set .main) (lines (take end tape) first)) refl (program-on (set .main) (take end tape) first)
   read-is h n w k (read.Alarm alarm place) on = none _ alarm place (on .0) (on .1) (omega (arith, n, on .1))
 
   pub every-result : P (task tape table set size bytes) (interpretation tape table set size bytes)

@@ -4,7 +4,7 @@ use mathlib.Core.Path.{_≡_, refl}
 use mathlib.Core.Bool.{true}
 use Rattle.division.specs.Division.{count, pieces}
 use Rattle.whole.specs.Position.{inTable}
-use Rattle.moves.specs.Form.{roomOf}
+use Rattle.moves.specs.Form.{roomOf, stamped}
 use Rattle.tape.specs.Lines.{seek, opensTape, isLineFeed, lineAt, gapOf, linesUp, lines}
 use Rattle.numbers.specs.Numbers.{digitsOf, unsignedPath, pathOf, digitsIn, numberOf}
 use Rattle.addresses.specs.Words.{capital, endsNumber, formOf, numberWord, indexedWord, wordAt, nextWord, lacksPoint, wordsUp, wordsFrom}
@@ -32,10 +32,10 @@ use Rattle.verdicts.specs.Verdicts.{sendingOf, deedIn, asksIn, askedIn, alarmIn
 use Rattle.machine.specs.Blocks.{doneRecords, doneState}
 use Rattle.writing.specs.Writes.{oneIf, speedOf, toolOf, mOf, speedAndTool, spindleAndCoolant, moved, done, stops, stopping, writes, otherCount}
 use Rattle.ahead.specs.Ahead.{calledAt, jumpedTo, lookedBy, lookedUp}
-use Rattle.steps.specs.Steps.{blockIn, blockOn, onwardBy, alarmBy, alarmAt, runAfter, doneAt, recordsAt, takenBy, takenFrom}
+use Rattle.steps.specs.Steps.{blockIn, blockOn, onwardBy, alarmBy, alarmAt, runAfter, doneAt, recordsAt, originAt, takenBy, takenFrom}
 use Rattle.answers.specs.Answers.{answerBy}
 use Rattle.interpreter.specs.Answers.{resultOf, mainBy, mainRun, readThen, interpretationBy, interpretation}
-use Rattle.runners.specs.Runs.{recordsOf, pre, goBack, andThen, goOn, onward, blocks, enough, repeated, called}
+use Rattle.runners.specs.Runs.{recordsOf, listedOf, pre, goBack, andThen, goOn, onward, blocks, enough, repeated, called}
 use Rattle.settings.specs.Wrong.{someOut, spanWrong, numbersWrong, tableWrong, settingsWrong}
 use Rattle.demands.specs.Table.{table, allHold}
 
@@ -48,6 +48,6 @@ unfolding count pieces inTable roomOf seek opensTape isLineFeed lineAt gapOf lin
     grooving plungeCount recordCountGrooving codeIn gIn motionBy blockMotion keep shiftBy cuttingBy revolutionBy correctionAfter feedAfter dueAfter settled timesOf steered flowBy mIn
     requestOf pairOf correctionPair offsetOf targetX targetZ hasPath hasCentre isFacing turningOf grooveOf straightIf moveOf deedOf asksOf
     alarmOf sendingOf deedIn asksIn askedIn alarmIn doneRecords doneState oneIf speedOf toolOf mOf speedAndTool spindleAndCoolant doing moved done stops stopping
-    writes otherCount calledAt jumpedTo lookedBy lookedUp blockIn blockOn onwardBy alarmBy alarmAt runAfter doneAt recordsAt takenBy takenFrom answerBy resultOf mainBy
-    mainRun readThen interpretationBy interpretation recordsOf pre goBack andThen goOn onward blocks enough repeated called someOut spanWrong numbersWrong tableWrong settingsWrong returnsBy
+    writes otherCount calledAt jumpedTo lookedBy lookedUp blockIn blockOn onwardBy alarmBy alarmAt runAfter doneAt recordsAt originAt takenBy takenFrom answerBy resultOf mainBy
+    mainRun readThen interpretationBy interpretation recordsOf listedOf stamped pre goBack andThen goOn onward blocks enough repeated called someOut spanWrong numbersWrong tableWrong settingsWrong returnsBy
 pieces-come-out = refl

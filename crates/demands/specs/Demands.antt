@@ -10,8 +10,8 @@ use lib.Dec.{eqb}
 use lib.IntN.{ℤ}
 use lib.ListN.{length, take, drop}
 use Rattle.moves.specs.Form.{headerSize, recordSize, recordLimit, recordStart, headerBytes, rowBytes, listBytes, LawfulList}
-use Rattle.moves.specs.Reading.{recordsIn, countIn, listIn}
-use Rattle.moves.specs.declared.record.Record.{Record}
+use Rattle.moves.specs.Reading.{rowAt, recordsIn, countIn, listIn}
+use Rattle.moves.specs.declared.record.Listed.{Listed}
 use Rattle.alarms.specs.Given.{IsAlarm}
 use Rattle.reading.specs.Filling.{readWith}
 use Rattle.reading.specs.declared.read.Read.{Read}
@@ -30,7 +30,7 @@ use Rattle.settings.specs.declared.control.Settings.{Settings}
 use Rattle.steps.specs.Steps.{Task, taskOf, Step, blockOn}
 use Rattle.answers.specs.Answers.{numberOf, placeOf, countOf}
 use Rattle.interpreter.specs.Answers.{Result, longestTape, interpretation, placesOf, bufferOf, laidBy}
-use Rattle.runners.specs.Runs.{recordsOf}
+use Rattle.runners.specs.Runs.{listedOf}
 use Rattle.answers.specs.declared.Answer.{Answer}
 use Rattle.answers.specs.declared.Answer.the-variants.{Complete}
 
@@ -114,12 +114,12 @@ ThreadPromiseInBuffer tape table set size b =
 abbrev pub Front : Answer → List ℕ → List ℕ → Type 0
 Front a b e = take headerSize e ≡ cond (eqb (numberOf a) 0) (headerBytes (countOf a)) (take headerSize b)
 
--- what a buffer b holds after an answer, as e, where the steps wrote the records rs: that many records, one after the other, in their bytes; the header's place as `Front` says, and every
--- byte behind the records as it came
-pub record HoldsAfter (a : Answer) (b e : List ℕ) (rs : List Record) : Type 0 where
-  pub counted : countOf a ≡ length rs
-  pub records : recordsIn e 0 (countOf a) ≡ rs
-  pub written : take (recordSize * countOf a) (drop headerSize e) ≡ rowBytes rs
+-- what a buffer b holds after an answer, as e, where the steps wrote the records ls, each with the block that it came from: that many records, one after the other, in their bytes; the header's
+-- place as `Front` says, and every byte behind the records as it came
+pub record HoldsAfter (a : Answer) (b e : List ℕ) (ls : List Listed) : Type 0 where
+  pub counted : countOf a ≡ length ls
+  pub records : rowAt e 0 (countOf a) ≡ ls
+  pub written : take (recordSize * countOf a) (drop headerSize e) ≡ rowBytes ls
   pub front : Front a b e
   pub behind : drop (recordStart (countOf a)) e ≡ drop (recordStart (countOf a)) b
   pub size : length e ≡ length b
@@ -139,7 +139,7 @@ pub record Told (points : Bool) (size : ℕ) (a : Answer) : Type 0 where
 
 -- what is owed of a result, with points asked for or not, on a tape of so many bytes and in the buffer b
 pub record Owed (points : Bool) (size : ℕ) (x : Result) (b : List ℕ) : Type 0 where
-  pub holds : HoldsAfter (x .answer) b (laidBy x b) (recordsOf (x .steps))
+  pub holds : HoldsAfter (x .answer) b (laidBy x b) (listedOf (x .steps))
   pub told : Told points size (x .answer)
 
 -- what a table of places that was `before` is after it, as `after`, where these lines were read and accepted: a row of entries that ascend, one for each program line and block of them and
@@ -160,19 +160,19 @@ DemandOne tape table set places b =
     Owed (set .points) (length tape) (interpretation tape table set (length places) (length b)) b
     × TableAfter (acceptedIn tape table set (length places) (length b)) places (placesOf tape table set places (length b))
 
--- a complete list of so many records: it is read off the bytes, its header has its count, and no other list has these bytes
-pub record IsList (count : ℕ) (e : List ℕ) (rs : List Record) : Type 0 where
-  pub lawful : LawfulList rs
-  pub written : take (recordStart count) e ≡ listBytes rs
-  pub reads : listIn e ≡ rs
+-- a complete list of so many records: it is read off the bytes, each record with its block, its header has its count, and no other list has these bytes
+pub record IsList (count : ℕ) (e : List ℕ) (ls : List Listed) : Type 0 where
+  pub lawful : LawfulList ls
+  pub written : take (recordStart count) e ≡ listBytes ls
+  pub reads : listIn e ≡ ls
   pub header : countIn e ≡ count
-  pub counted : count ≡ length rs
-  pub alone : (ss : List Record) (tail : List ℕ) → LawfulList ss → e ≡ listBytes ss ++ tail → ss ≡ rs
+  pub counted : count ≡ length ls
+  pub alone : (ms : List Listed) (tail : List ℕ) → LawfulList ms → e ≡ listBytes ms ++ tail → ms ≡ ls
 
--- what is owed of a list, as a result in the buffer b: where the answer is a list, its bytes are those of the steps' records and have no other reading
+-- what is owed of a list, as a result in the buffer b: where the answer is a list, its bytes are those of the steps' records, each with its step's program and block, and have no other reading
 abbrev pub OwedList : Result → List ℕ → Type 0
-OwedList x b = numberOf (x .answer) ≡ 0 → IsList (countOf (x .answer)) (laidBy x b) (recordsOf (x .steps))
+OwedList x b = numberOf (x .answer) ≡ 0 → IsList (countOf (x .answer)) (laidBy x b) (listedOf (x .steps))
 
--- DEMAND 2, of every tape, table, settings, length of the table of places and buffer. (Where the answer is an alarm, and that it is a list where nothing refuses: `AlarmsStand` of `alarmed`.)
+-- DEMAND 2, of every tape, table, settings, length of the table of places and buffer. (That program and block of each record are those of the tape: `EveryBlockNamed` of Origins.antt. Where the answer is an alarm, and that it is a list where nothing refuses: `AlarmsStand` of `alarmed`.)
 abbrev pub DemandTwo : List ℕ → List ℤ → Settings → ℕ → List ℕ → Type 0
 DemandTwo tape table set size b = OwedList (interpretation tape table set size (length b)) b

@@ -6,4 +6,5 @@ pub mod Opens
 pub mod Demands
 pub mod Points
 pub mod Strokes
+pub mod Origins
 pub mod Arcs

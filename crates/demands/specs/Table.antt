@@ -1,4 +1,4 @@
--- 01, "Pieces that must come out so": P1 to P10 as a single table, the listing that it prints, and a facing G84. Cases by tape go through all definitions, with the settings of `listmoves`; places on a tape count from 0.
+-- 01, "Pieces that must come out so": P1 to P10 as a single table, the listing that it prints, a facing G84, and which blocks records came from. Cases by tape go through all definitions, with the settings of `listmoves`; places on a tape count from 0.
 use mathlib.Core.Bool.{Bool, true, false, _&&_}
 use mathlib.Core.List.{List, [], _∷_, _++_}
 use Prim.Native.Nat.{ℕ}
@@ -8,8 +8,11 @@ use lib.IntN.{ℤ, pos}
 use lib.Signed.{leZ}
 use Rattle.whole.specs.Signed.{minus}
 use Rattle.division.specs.Division.{count, pieces}
-use Rattle.moves.specs.Kinds.{rapid, feed, miscellaneous}
+use Rattle.moves.specs.Form.{listed}
+use Rattle.moves.specs.Kinds.{rapid, feed, miscellaneous, speed}
 use Rattle.moves.specs.declared.record.Record.{Record}
+use Rattle.moves.specs.declared.record.Origin.{Origin}
+use Rattle.moves.specs.declared.record.Listed.{Listed}
 use Rattle.letters.specs.Text.{bytes}
 use Rattle.addresses.specs.Words.{nextWord}
 use Rattle.addresses.specs.declared.NextWord.{NextWord}
@@ -18,7 +21,7 @@ use Rattle.reading.specs.Filling.{mostPlaces}
 use Rattle.settings.specs.Listmoves.{listmoves, noOffsets}
 use Rattle.answers.specs.Answers.{numberOf, placeOf, countOf}
 use Rattle.interpreter.specs.Answers.{Result, interpretation}
-use Rattle.runners.specs.Runs.{recordsOf}
+use Rattle.runners.specs.Runs.{recordsOf, listedOf}
 
 -- what comes of a tape, with a table of places of 21,845 entries and a buffer of 64,008 bytes
 abbrev pub comesOf : String → Result
@@ -34,6 +37,8 @@ pub data Case : Type 0 where
   alarms : String → ℕ → ℕ → ℕ → Case
   -- a tape, and the records of its complete list
   lists : String → List Record → Case
+  -- the same, each with the program and the block that it came from
+  names : String → List Listed → Case
 
 -- ---- whether it holds
 abbrev sameZ : ℤ → ℤ → Bool
@@ -54,6 +59,15 @@ sameRecords [] (s ∷ ss) = false
 sameRecords (r ∷ rs) [] = false
 sameRecords (r ∷ rs) (s ∷ ss) = sameRecord r s && sameRecords rs ss
 
+abbrev sameOrigin : Origin → Origin → Bool
+sameOrigin o q = eqb (o .program) (q .program) && eqb (o .block) (q .block)
+
+abbrev sameListed : List Listed → List Listed → Bool
+sameListed [] [] = true
+sameListed [] (m ∷ ms) = false
+sameListed (l ∷ ls) [] = false
+sameListed (l ∷ ls) (m ∷ ms) = (sameRecord (l .what) (m .what) && sameOrigin (l .origin) (m .origin)) && sameListed ls ms
+
 abbrev isValue : NextWord → ℤ → Bool
 isValue (next.Word w end) v = sameZ (w .value) v
 isValue next.End v = false
@@ -65,15 +79,23 @@ givesAlarm x n p k = (eqb (numberOf (x .answer)) n && eqb (placeOf (x .answer)) 
 abbrev givesList : Result → List Record → Bool
 givesList x rs = eqb (numberOf (x .answer)) 0 && sameRecords (recordsOf (x .steps)) rs
 
+abbrev namesBlocks : Result → List Listed → Bool
+namesBlocks x ls = eqb (numberOf (x .answer)) 0 && sameListed (listedOf (x .steps)) ls
+
 abbrev pub holds : Case → Bool
 holds (divides e d row) = same (pieces e (count e d)) row
 holds (reads text v) = isValue (nextWord (bytes text) 0) v
 holds (alarms text n p k) = givesAlarm (comesOf text) n p k
 holds (lists text rs) = givesList (comesOf text) rs
+holds (names text ls) = namesBlocks (comesOf text) ls
 
 abbrev pub allHold : List Case → Bool
 allHold [] = true
 allHold (c ∷ cs) = holds c && allHold cs
+
+-- a record of a block of a program
+abbrev from : ℕ → ℕ → Record → Listed
+from program block r = listed (record { program = program; block = block }) r
 
 -- ---- the table
 -- P6: "plunges at Z -24, -26.5, -29; depth four of 2,667 and two of 2,666 (diameter); 39 records"
@@ -205,5 +227,29 @@ table =
     ∷ feed (pos 20800) (pos 2000) 120 true
     ∷ rapid (pos 40000) (pos 2000)
     ∷ miscellaneous (pos 40000) (pos 2000) 30
+    ∷ [])
+    -- 02, request 7: the listing with its blocks, as `listmoves` prints it
+    ∷ names "%1\nN10 G00 X40. Z2.\nN20 G84 X30. Z-20. D0=400 D2=100 D3=2500 F120\nN30 M30"
+    (from 1 10 (rapid (pos 40000) (pos 2000))
+    ∷ from 1 20 (rapid (pos 35400) (pos 2000))
+    ∷ from 1 20 (feed (pos 35400) (minus 19900) 120 true)
+    ∷ from 1 20 (feed (pos 40000) (minus 19900) 120 true)
+    ∷ from 1 20 (rapid (pos 40000) (pos 2000))
+    ∷ from 1 20 (rapid (pos 30800) (pos 2000))
+    ∷ from 1 20 (feed (pos 30800) (minus 19900) 120 true)
+    ∷ from 1 20 (feed (pos 40000) (minus 19900) 120 true)
+    ∷ from 1 20 (rapid (pos 40000) (pos 2000))
+    ∷ from 1 30 (miscellaneous (pos 40000) (pos 2000) 30)
+    ∷ [])
+    -- "For a move inside a subprogram it is the subprogram's block": two runs of a subprogram, and the main program behind them
+    ∷ names "%80\nN15 S5 G00 X1. Z2. M08\nN40 M17\n%1\nN10 G25 L8002\nN20 M00\nN30 M30"
+    (from 80 15 (speed (pos 60000) (pos 50000) 5 false)
+    ∷ from 80 15 (miscellaneous (pos 60000) (pos 50000) 8)
+    ∷ from 80 15 (rapid (pos 1000) (pos 2000))
+    ∷ from 80 15 (speed (pos 1000) (pos 2000) 5 false)
+    ∷ from 80 15 (miscellaneous (pos 1000) (pos 2000) 8)
+    ∷ from 80 15 (rapid (pos 1000) (pos 2000))
+    ∷ from 1 20 (miscellaneous (pos 1000) (pos 2000) 0)
+    ∷ from 1 30 (miscellaneous (pos 1000) (pos 2000) 30)
     ∷ [])
     ∷ []

@@ -3,7 +3,7 @@
 use mathlib.Core.Path.{_≡_}
 use mathlib.Core.Bool.{cond}
 use mathlib.Core.List.{List, [], _∷_}
-use Prim.Native.Nat.{ℕ, _+_, _≤_}
+use Prim.Native.Nat.{ℕ, _+_, _<_, _≤_}
 use lib.Dec.{eqb}
 use lib.ListN.{length}
 use Rattle.tape.specs.Lines.{Text, textAt, lineAt, lines}
@@ -65,23 +65,34 @@ firstBlock ts = seekLine AnyBlock ts
 unfoldable pub blockOfProgram : ℕ → List ℕ → ℕ → Found
 blockOfProgram n tape program = seekLine (Block n) (lines tape (lineAt tape program .after))
 
--- the next block line as it is found: its place, the place in its text behind its first word, where the text ends, and where the next line begins
+-- the number of a block line, by how it begins. (No other line is asked.)
+abbrev pub blockNumber : Head → ℕ
+blockNumber (BlockLine n) = n
+blockNumber (ProgramLine n) = 0
+blockNumber Blank = 0
+blockNumber (Other lacks) = 0
+
+-- the number of the block line at a place of the tape
+abbrev pub blockNumberAt : List ℕ → ℕ → ℕ
+blockNumberAt tape p = blockNumber (headOf (textAt tape p .bytes))
+
+-- the next block line as it is found: its place, its number, the place in its text behind its first word, where the text ends, and where the next line begins
 abbrev pub behindStart : LineStart → ℕ
 behindStart (start.With h end) = end
 behindStart start.Blank = 0
 behindStart start.Fault = 0
 
 abbrev pub blockAt : List ℕ → ℕ → BlockAt
-blockAt tape p = record { at = p; behind = behindStart (startOf (textAt tape p .bytes)); stop = lineAt tape p .stop; after = lineAt tape p .after }
+blockAt tape p = record { at = p; number = blockNumberAt tape p; behind = behindStart (startOf (textAt tape p .bytes)); stop = lineAt tape p .stop; after = lineAt tape p .after }
 
 unfoldable pub nextBlock : List ℕ → Found → NextBlock
 nextBlock tape (At p) = next.At (blockAt tape p)
 nextBlock tape Nowhere = next.Nowhere
 
--- what is known of it: it stands on the tape, and starts with a block number
+-- what is known of it: it stands on the tape, and starts with its block number, which has four digits
 pub record BlockIn (tape : List ℕ) (l : BlockAt) : Type 0 where
-  pub number : ℕ
-  pub starts : startOf (textAt tape (l .at) .bytes) ≡ start.With (BlockLine number) (l .behind)
+  pub starts : startOf (textAt tape (l .at) .bytes) ≡ start.With (BlockLine (l .number)) (l .behind)
+  pub small : l .number < 10_000
   pub on : l .at ≤ length tape
   pub begins : l .at + l .behind ≤ l .stop
   pub text : l .stop ≤ length tape

@@ -7,11 +7,12 @@ ghost use mathlib.Core.Path.{_≡_};
 ghost use Prim.Native.Nat.{_≤_};
 ghost use lib.ListN.{length};
 ghost use Rattle.tape.specs.Lines.{lines};
-ghost use Rattle.finding.specs.Finding.{AnyBlock, hereOf, firstBlock, nextBlock, NextIn};
+ghost use Rattle.finding.specs.Finding.{AnyBlock, hereOf, blockNumber, firstBlock, nextBlock, NextIn};
 
-// A block line that was found: its first byte, the place in its text behind its block number, where the text ends, and where the next line begins.
+// A block line that was found: its first byte, its number, the place in its text behind its number, where the text ends, and where the next line begins.
 pub struct BlockAt {
     pub at: usize,
+    pub number: u32,
     pub behind: usize,
     pub stop: usize,
     pub after: usize,
@@ -38,6 +39,18 @@ fn any_here(head: Head) -> Here
         Head::BlockLine(_) => Here::Is,
         Head::Blank => Here::On,
         Head::Other(_) => Here::On,
+    }
+}
+
+// The number of a block line. No other is asked.
+fn number_of(head: Head) -> u32
+    ensures { λ r. ⌜ r ≡ blockNumber head ⌝ }
+{
+    match head {
+        Head::BlockLine(n) => n,
+        Head::ProgramLine(_) => 0,
+        Head::Blank => 0,
+        Head::Other(_) => 0,
     }
 }
 
@@ -68,6 +81,7 @@ pub fn next_block(tape: &[u8], from: usize) -> NextBlock
                     Here::Is => {
                         break NextBlock::At(BlockAt {
                             at: p,
+                            number: number_of(head),
                             behind,
                             stop,
                             after,

@@ -34,7 +34,7 @@ use Rattle.answers.specs.declared.Answer.{Answer}
 use Rattle.answers.specs.declared.Answer.the-variants.{Alarm}
 use Rattle.runners.specs.declared.run.Ending.{Ending}
 use Rattle.runners.specs.declared.run.Outcome.{Outcome}
-use Rattle.runners.specs.Runs.{blocksInAll, recordsOf, programRun}
+use Rattle.runners.specs.Runs.{blocksInAll, listedOf, programRun}
 use Rattle.runners.specs.Meets.{Begins, RanMeets}
 use Rattle.settings.specs.Points.{withPoints}
 use Rattle.settings.specs.Wrong.{settingsWrong}
@@ -53,7 +53,7 @@ gives-by b {a} {e} h g = subst (λ (z : Result). Gives z b a e) (sym h) g
 
 -- an alarm before any block is begun leaves every byte as it came
 pub none-begun : (alarm place : ℕ) (b : List ℕ) → Gives (refused alarm place) b (Alarm alarm place 0) b
-unfolding laidBy recordsOf rowBytes
+unfolding laidBy listedOf rowBytes
 none-begun alarm place b = (refl, sym (laid-nil b (recordStart 0)))
 
 -- ---- the main program
@@ -88,7 +88,7 @@ module _ (tape : List ℕ) (table : List ℤ) (set : Settings) (first : ℕ) (b 
       -- the header and the count have their room
       pub finish-needs : (headerSize ≤ length e) × (o .run .count ≤ recordLimit)
       finish-needs = (
-        omega (arith, header, wrote-length tape table set first b header refl (recordsOf (programRun t (mainAt set p) mostCalls r .steps)) (q .took)),
+        omega (arith, header, wrote-length tape table set first b header refl (listedOf (programRun t (mainAt set p) mostCalls r .steps)) (q .took)),
         omega (arith, q .took .fit .count, room-few (length b)),
       )
 

@@ -26,7 +26,7 @@ use Rattle.steps.specs.Steps.{Task, taskOf, Step}
 use Rattle.answers.specs.declared.Answer.{Answer}
 use Rattle.answers.specs.declared.Answer.the-variants.{Alarm}
 use Rattle.answers.specs.Answers.{answerBy, startOf, headed}
-use Rattle.runners.specs.Runs.{Ran, recordsOf, programRun}
+use Rattle.runners.specs.Runs.{Ran, listedOf, programRun}
 use Rattle.settings.specs.Points.{withPoints}
 use Rattle.settings.specs.Wrong.{settingsWrong}
 
@@ -89,9 +89,9 @@ rowOf tape table set size bytes =
 abbrev pub placesOf : List ℕ → List ℤ → Settings → List ℕ → ℕ → List ℕ
 placesOf tape table set places bytes = placesBehind (rowOf tape table set (length places) bytes) places
 
--- the buffer after it: the records of the steps behind the header's place, all other bytes as they came, and the header where the list is complete
+-- the buffer after it: the records of the steps behind the header's place, each with the block that it came from, all other bytes as they came, and the header where the list is complete
 unfoldable pub laidBy : Result → List ℕ → List ℕ
-laidBy x b = headed (x .answer) (laid b (recordStart 0) (rowBytes (recordsOf (x .steps))))
+laidBy x b = headed (x .answer) (laid b (recordStart 0) (rowBytes (listedOf (x .steps))))
 
 abbrev pub bufferOf : List ℕ → List ℤ → Settings → ℕ → List ℕ → List ℕ
 bufferOf tape table set size b = laidBy (interpretation tape table set size (length b)) b

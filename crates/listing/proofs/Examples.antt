@@ -7,10 +7,11 @@ use Prim.Native.Nat.{ℕ}
 use lib.IntN.{ℤ, pos}
 use Rattle.whole.specs.Bytes.{signedBytes, signedOf}
 use Rattle.whole.specs.Signed.{minus}
-use Rattle.moves.specs.Form.{headerBytes, recordBytes, rowBytes, listBytes}
+use Rattle.moves.specs.Form.{headerBytes, whatBytes, originBytes, recordBytes, rowBytes, listBytes, listed, stamped}
 use Rattle.moves.specs.Kinds.{rapid, feed, miscellaneous}
-use Rattle.moves.specs.Reading.{recordIn, rowIn}
+use Rattle.moves.specs.Reading.{recordIn, originIn, rowIn}
 use Rattle.moves.specs.declared.record.Record.{Record}
+use Rattle.moves.specs.declared.record.Origin.{Origin}
 use Rattle.letters.specs.Letters.{lf}
 use Rattle.letters.specs.Text.{bytes}
 use Rattle.answers.specs.declared.Answer.the-variants.{Complete}
@@ -21,20 +22,24 @@ use Rattle.listing.specs.Listing.{headLine, recordLine, recordLines, ala
 abbrev printed : List ℕ → List ℕ
 printed text = text ++ (lf ∷ [])
 
+-- the block of a program
+abbrev at : ℕ → ℕ → Origin
+at program block = record { program = program; block = block }
+
 -- ---- the lines
-pub head : headLine 10 ≡ printed (bytes "TMV 1 10")
+pub head : headLine 10 ≡ printed (bytes "TMV 2 10")
 unfolding headLine decimal digits digitsUp
 head = refl
 
-pub rapid-line : recordLine (rapid (pos 40000) (pos 2000)) ≡ printed (bytes "1 0 40000 2000 0")
+pub rapid-line : recordLine (listed (at 1 10) (rapid (pos 40000) (pos 2000))) ≡ printed (bytes "1 0 40000 2000 0 1 10")
 unfolding recordLine signed decimal digits digitsUp
 rapid-line = refl
 
-pub feed-line : recordLine (feed (pos 35400) (minus 19900) 120 true) ≡ printed (bytes "2 1 35400 -19900 120")
+pub feed-line : recordLine (listed (at 6999 9999) (feed (pos 35400) (minus 19900) 120 true)) ≡ printed (bytes "2 1 35400 -19900 120 6999 9999")
 unfolding recordLine signed decimal digits digitsUp
 feed-line = refl
 
-pub stop-line : recordLine (miscellaneous (pos 40000) (pos 2000) 30) ≡ printed (bytes "6 0 40000 2000 30")
+pub stop-line : recordLine (listed (at 0 0) (miscellaneous (pos 40000) (pos 2000) 30)) ≡ printed (bytes "6 0 40000 2000 30 0 0")
 unfolding recordLine signed decimal digits digitsUp
 stop-line = refl
 
@@ -47,19 +52,19 @@ abbrev turn : ℤ → List Record
 turn x = rapid x (pos 2000) ∷ feed x (minus 19900) 120 true ∷ feed (pos 40000) (minus 19900) 120 true ∷ rapid (pos 40000) (pos 2000) ∷ []
 
 abbrev list : List ℕ
-list = listBytes (rapid (pos 40000) (pos 2000) ∷ (turn (pos 35400) ++ (turn (pos 30800) ++ (miscellaneous (pos 40000) (pos 2000) 30 ∷ []))))
+list = listBytes (stamped (at 1 10) (rapid (pos 40000) (pos 2000) ∷ []) ++ (stamped (at 1 20) (turn (pos 35400) ++ turn (pos 30800)) ++ stamped (at 1 30) (miscellaneous (pos 40000) (pos 2000) 30 ∷ [])))
 
 pub listing : listingOf (Complete 10) list ≡
-    printed (bytes "TMV 1 10")
-    ++ (printed (bytes "1 0 40000 2000 0")
-    ++ (printed (bytes "1 0 35400 2000 0")
-    ++ (printed (bytes "2 1 35400 -19900 120")
-    ++ (printed (bytes "2 1 40000 -19900 120")
-    ++ (printed (bytes "1 0 40000 2000 0")
-    ++ (printed (bytes "1 0 30800 2000 0")
-    ++ (printed (bytes "2 1 30800 -19900 120")
-    ++ (printed (bytes "2 1 40000 -19900 120")
-    ++ (printed (bytes "1 0 40000 2000 0")
-    ++ printed (bytes "6 0 40000 2000 30"))))))))))
-unfolding listBytes headerBytes rowBytes recordBytes signedBytes signedOf recordIn rowIn listingOf headLine recordLines recordLine signed decimal digits digitsUp
+    printed (bytes "TMV 2 10")
+    ++ (printed (bytes "1 0 40000 2000 0 1 10")
+    ++ (printed (bytes "1 0 35400 2000 0 1 20")
+    ++ (printed (bytes "2 1 35400 -19900 120 1 20")
+    ++ (printed (bytes "2 1 40000 -19900 120 1 20")
+    ++ (printed (bytes "1 0 40000 2000 0 1 20")
+    ++ (printed (bytes "1 0 30800 2000 0 1 20")
+    ++ (printed (bytes "2 1 30800 -19900 120 1 20")
+    ++ (printed (bytes "2 1 40000 -19900 120 1 20")
+    ++ (printed (bytes "1 0 40000 2000 0 1 20")
+    ++ printed (bytes "6 0 40000 2000 30 1 30"))))))))))
+unfolding listBytes headerBytes rowBytes recordBytes whatBytes originBytes stamped signedBytes signedOf recordIn originIn rowIn listingOf headLine recordLines recordLine signed decimal digits digitsUp
 listing = refl

@@ -6,8 +6,8 @@ use lib.IntN.{ℤ, pos, negsuc, natAbs}
 use lib.ListN.{length, length-append}
 use mir.Syntax.{w32}
 use mir.Val.{SFits}
-use Rattle.moves.specs.Form.{version, Fitting}
-use Rattle.moves.specs.declared.record.Record.{Record}
+use Rattle.moves.specs.Form.{version, Fitting, FittingOrigin}
+use Rattle.moves.specs.declared.record.Listed.{Listed}
 use Rattle.decimal.proofs.Digits.{few-decimal, few-signed}
 use Rattle.listing.specs.Listing.{headLine, recordLine, alarmLine, longestHead, longestRecordLine, longestAlarm}
 
@@ -21,9 +21,10 @@ unfolding headLine
 short-head count h =
     simp length-append (omega (arith, few-decimal 0 version (omega arith), few-decimal 19 count (omega arith)))
 
-pub short-line : (r : Record) → Fitting r → length (recordLine r) ≤ longestRecordLine
+pub short-line : (l : Listed) → Fitting (l .what) → FittingOrigin (l .origin) → length (recordLine l) ≤ longestRecordLine
 unfolding recordLine
-short-line r f =
+short-line l f g =
+    let r = l .what in
     simp length-append
     (omega (
       arith,
@@ -32,6 +33,8 @@ short-line r f =
       few-signed 9 (r .x) (size-of (r .x) (f .x)),
       few-signed 9 (r .z) (size-of (r .z) (f .z)),
       few-decimal 9 (r .value) (omega (arith, f .value)),
+      few-decimal 4 (l .origin .program) (omega (arith, g .program)),
+      few-decimal 4 (l .origin .block) (omega (arith, g .block)),
     ))
 
 pub short-alarm : (alarm place count : ℕ) → alarm < 2 ^ 8 → place < 2 ^ 64 → count < 2 ^ 64 → length (alarmLine alarm place count) ≤ longestAlarm

@@ -7,9 +7,9 @@ use native.Mathlib.Omega.{arith}
 use borrow.Author.Tests.{le-leb, lt-leb}
 use lib.ListN.{length, drop}
 use Rattle.whole.specs.Bytes.{laid}
-use Rattle.moves.specs.Form.{version, recordStart, roomOf, Fitting}
-use Rattle.moves.specs.Reading.{recordIn, recordsIn}
-use Rattle.moves.specs.declared.record.Record.{Record}
+use Rattle.moves.specs.Form.{version, recordStart, roomOf, Fitting, FittingOrigin}
+use Rattle.moves.specs.Reading.{listedIn, rowAt}
+use Rattle.moves.specs.declared.record.Listed.{Listed}
 use Rattle.letters.specs.Letters.{lf, space}
 use Rattle.letters.specs.Text.{bytes}
 use Rattle.answers.specs.declared.Answer.{Answer}
@@ -101,80 +101,112 @@ unfolding textOf isMade listingOf
 no-alarm b alarm place count list h = (rw (lt-leb longestAlarm (length b) h) (nothing-wrote b 0), omega arith)
 
 -- ---- the line of a record
-module _ (r : Record) where
+module _ (l : Listed) where
   abbrev kindWord : List ℕ
-  kindWord = decimal (r .kind)
+  kindWord = decimal (l .what .kind)
 
   abbrev flagsWord : List ℕ
-  flagsWord = decimal (r .flags)
+  flagsWord = decimal (l .what .flags)
 
   abbrev xWord : List ℕ
-  xWord = signed (r .x)
+  xWord = signed (l .what .x)
 
   abbrev zWord : List ℕ
-  zWord = signed (r .z)
+  zWord = signed (l .what .z)
 
   abbrev valueWord : List ℕ
-  valueWord = decimal (r .value)
+  valueWord = decimal (l .what .value)
 
-module _ (b : List ℕ) (at : ℕ) (r : Record) (f : Fitting r) (room : at + longestRecordLine ≤ length b) where
-  line-fits : at + length (recordLine r) ≤ length b
-  line-fits = omega (arith, short-line r f)
+  abbrev programWord : List ℕ
+  programWord = decimal (l .origin .program)
 
-  pub kind-room : at + length (kindWord r ++ (space ∷ [])) ≤ length b
+  abbrev blockWord : List ℕ
+  blockWord = decimal (l .origin .block)
+
+  -- the words behind a word, from the last on
+  abbrev after-value : List (List ℕ)
+  after-value = programWord ∷ blockWord ∷ []
+
+  abbrev after-z : List (List ℕ)
+  after-z = valueWord ∷ after-value
+
+  abbrev after-x : List (List ℕ)
+  after-x = zWord ∷ after-z
+
+module _ (b : List ℕ) (at : ℕ) (l : Listed) (f : Fitting (l .what)) (g : FittingOrigin (l .origin)) (room : at + longestRecordLine ≤ length b) where
+  line-fits : at + length (recordLine l) ≤ length b
+  line-fits = omega (arith, short-line l f g)
+
+  pub kind-room : at + length (kindWord l ++ (space ∷ [])) ≤ length b
   unfolding recordLine
-  kind-room = word-room b at (kindWord r) (flagsWord r) (xWord r ∷ zWord r ∷ valueWord r ∷ []) line-fits
+  kind-room = word-room b at (kindWord l) (flagsWord l) (xWord l ∷ after-x l) line-fits
 
-  module _ {m1 : ℕ} {c1 : List ℕ} (w1 : Wrote b at (kindWord r ++ (space ∷ [])) m1 c1) where
-    rest1 : m1 + length (line (flagsWord r) (xWord r ∷ zWord r ∷ valueWord r ∷ [])) ≤ length c1
+  module _ {m1 : ℕ} {c1 : List ℕ} (w1 : Wrote b at (kindWord l ++ (space ∷ [])) m1 c1) where
+    rest1 : m1 + length (line (flagsWord l) (xWord l ∷ after-x l)) ≤ length c1
     unfolding recordLine
-    rest1 = word-rest b at (kindWord r) (flagsWord r) (xWord r ∷ zWord r ∷ valueWord r ∷ []) line-fits w1
+    rest1 = word-rest b at (kindWord l) (flagsWord l) (xWord l ∷ after-x l) line-fits w1
 
-    pub flags-room : m1 + length (flagsWord r ++ (space ∷ [])) ≤ length c1
-    flags-room = word-room c1 m1 (flagsWord r) (xWord r) (zWord r ∷ valueWord r ∷ []) rest1
+    pub flags-room : m1 + length (flagsWord l ++ (space ∷ [])) ≤ length c1
+    flags-room = word-room c1 m1 (flagsWord l) (xWord l) (after-x l) rest1
 
-    module _ {m2 : ℕ} {c2 : List ℕ} (w2 : Wrote c1 m1 (flagsWord r ++ (space ∷ [])) m2 c2) where
-      rest2 : m2 + length (line (xWord r) (zWord r ∷ valueWord r ∷ [])) ≤ length c2
-      rest2 = word-rest c1 m1 (flagsWord r) (xWord r) (zWord r ∷ valueWord r ∷ []) rest1 w2
+    module _ {m2 : ℕ} {c2 : List ℕ} (w2 : Wrote c1 m1 (flagsWord l ++ (space ∷ [])) m2 c2) where
+      rest2 : m2 + length (line (xWord l) (after-x l)) ≤ length c2
+      rest2 = word-rest c1 m1 (flagsWord l) (xWord l) (after-x l) rest1 w2
 
-      pub x-room : m2 + length (xWord r ++ (space ∷ [])) ≤ length c2
-      x-room = word-room c2 m2 (xWord r) (zWord r) (valueWord r ∷ []) rest2
+      pub x-room : m2 + length (xWord l ++ (space ∷ [])) ≤ length c2
+      x-room = word-room c2 m2 (xWord l) (zWord l) (after-z l) rest2
 
-      module _ {m3 : ℕ} {c3 : List ℕ} (w3 : Wrote c2 m2 (xWord r ++ (space ∷ [])) m3 c3) where
-        rest3 : m3 + length (line (zWord r) (valueWord r ∷ [])) ≤ length c3
-        rest3 = word-rest c2 m2 (xWord r) (zWord r) (valueWord r ∷ []) rest2 w3
+      module _ {m3 : ℕ} {c3 : List ℕ} (w3 : Wrote c2 m2 (xWord l ++ (space ∷ [])) m3 c3) where
+        rest3 : m3 + length (line (zWord l) (after-z l)) ≤ length c3
+        rest3 = word-rest c2 m2 (xWord l) (zWord l) (after-z l) rest2 w3
 
-        pub z-room : m3 + length (zWord r ++ (space ∷ [])) ≤ length c3
-        z-room = word-room c3 m3 (zWord r) (valueWord r) [] rest3
+        pub z-room : m3 + length (zWord l ++ (space ∷ [])) ≤ length c3
+        z-room = word-room c3 m3 (zWord l) (valueWord l) (after-value l) rest3
 
-        module _ {m4 : ℕ} {c4 : List ℕ} (w4 : Wrote c3 m3 (zWord r ++ (space ∷ [])) m4 c4) where
-          pub value-room : m4 + length (valueWord r ++ (lf ∷ [])) ≤ length c4
-          value-room = word-rest c3 m3 (zWord r) (valueWord r) [] rest3 w4
+        module _ {m4 : ℕ} {c4 : List ℕ} (w4 : Wrote c3 m3 (zWord l ++ (space ∷ [])) m4 c4) where
+          rest4 : m4 + length (line (valueWord l) (after-value l)) ≤ length c4
+          rest4 = word-rest c3 m3 (zWord l) (valueWord l) (after-value l) rest3 w4
 
-          written-line : {n : ℕ} {e : List ℕ} → Wrote c4 m4 (valueWord r ++ (lf ∷ [])) n e → Wrote b at (recordLine r) n e
-          unfolding recordLine
-          written-line k =
-              word-on b at (kindWord r) (flagsWord r) (xWord r ∷ zWord r ∷ valueWord r ∷ []) line-fits w1
-              (word-on c1 m1 (flagsWord r) (xWord r) (zWord r ∷ valueWord r ∷ []) rest1 w2
-              (word-on c2 m2 (xWord r) (zWord r) (valueWord r ∷ []) rest2 w3 (word-on c3 m3 (zWord r) (valueWord r) [] rest3 w4 k)))
+          pub value-room : m4 + length (valueWord l ++ (space ∷ [])) ≤ length c4
+          value-room = word-room c4 m4 (valueWord l) (programWord l) (blockWord l ∷ []) rest4
 
-          pub line-made : {n : ℕ} {e : List ℕ} → Wrote c4 m4 (valueWord r ++ (lf ∷ [])) n e → Wrote b at (recordLine r) n e × (n ≤ at + longestRecordLine)
-          line-made k = (written-line k, omega (arith, written-line k .place, short-line r f))
+          module _ {m5 : ℕ} {c5 : List ℕ} (w5 : Wrote c4 m4 (valueWord l ++ (space ∷ [])) m5 c5) where
+            rest5 : m5 + length (line (programWord l) (blockWord l ∷ [])) ≤ length c5
+            rest5 = word-rest c4 m4 (valueWord l) (programWord l) (blockWord l ∷ []) rest4 w5
+
+            pub program-room : m5 + length (programWord l ++ (space ∷ [])) ≤ length c5
+            program-room = word-room c5 m5 (programWord l) (blockWord l) [] rest5
+
+            module _ {m6 : ℕ} {c6 : List ℕ} (w6 : Wrote c5 m5 (programWord l ++ (space ∷ [])) m6 c6) where
+              pub block-room : m6 + length (blockWord l ++ (lf ∷ [])) ≤ length c6
+              block-room = word-rest c5 m5 (programWord l) (blockWord l) [] rest5 w6
+
+              written-line : {n : ℕ} {e : List ℕ} → Wrote c6 m6 (blockWord l ++ (lf ∷ [])) n e → Wrote b at (recordLine l) n e
+              unfolding recordLine
+              written-line k =
+                  word-on b at (kindWord l) (flagsWord l) (xWord l ∷ after-x l) line-fits w1
+                  (word-on c1 m1 (flagsWord l) (xWord l) (after-x l) rest1 w2
+                  (word-on c2 m2 (xWord l) (zWord l) (after-z l) rest2 w3
+                  (word-on c3 m3 (zWord l) (valueWord l) (after-value l) rest3 w4
+                  (word-on c4 m4 (valueWord l) (programWord l) (blockWord l ∷ []) rest4 w5 (word-on c5 m5 (programWord l) (blockWord l) [] rest5 w6 k)))))
+
+              pub line-made : {n : ℕ} {e : List ℕ} → Wrote c6 m6 (blockWord l ++ (lf ∷ [])) n e → Wrote b at (recordLine l) n e × (n ≤ at + longestRecordLine)
+              line-made k = (written-line k, omega (arith, written-line k .place, short-line l f g))
 
 -- ---- the lines of the records, one after the other
 pub records-begin : (b : List ℕ) (at : ℕ) (list : List ℕ) (count : ℕ) → at ≤ length b
-    → Going b at (recordLines (recordsIn list 0 count)) b at (recordLines (recordsIn list 0 (count - 0)))
+    → Going b at (recordLines (rowAt list 0 count)) b at (recordLines (rowAt list 0 (count - 0)))
 records-begin b at list count h =
     let e : count ≡ count - 0 = omega arith in
-    subst (λ (n : ℕ). Going b at (recordLines (recordsIn list 0 count)) b at (recordLines (recordsIn list 0 n))) e (begin b at (recordLines (recordsIn list 0 count)) h)
+    subst (λ (n : ℕ). Going b at (recordLines (rowAt list 0 count)) b at (recordLines (rowAt list 0 n))) e (begin b at (recordLines (rowAt list 0 count)) h)
 
-module _ {b : List ℕ} {at : ℕ} {all c : List ℕ} {m : ℕ} (list : List ℕ) (k count : ℕ) (g : Going b at all c m (recordLines (recordsIn list k (count - k)))) where
-  pub record-next : k < count → m + longestRecordLine ≤ length c → {what : Record} → what ≡ recordIn (drop (recordStart k) list)
-      → {n : ℕ} {e : List ℕ} → Wrote c m (recordLine what) n e → n ≤ m + longestRecordLine → Going b at all e n (recordLines (recordsIn list (k + 1) (count - (k + 1))))
+module _ {b : List ℕ} {at : ℕ} {all c : List ℕ} {m : ℕ} (list : List ℕ) (k count : ℕ) (g : Going b at all c m (recordLines (rowAt list k (count - k)))) where
+  pub record-next : k < count → m + longestRecordLine ≤ length c → {what : Listed} → what ≡ listedIn (drop (recordStart k) list)
+      → {n : ℕ} {e : List ℕ} → Wrote c m (recordLine what) n e → n ≤ m + longestRecordLine → Going b at all e n (recordLines (rowAt list (k + 1) (count - (k + 1))))
   record-next h room {what} is {n} {e} w short =
-      let here : recordLine what ≡ recordLine (recordIn (drop (recordStart k) list)) = ap recordLine is in
+      let here : recordLine what ≡ recordLine (listedIn (drop (recordStart k) list)) = ap recordLine is in
       let one = wrote-as here w in
-      next (recordLine (recordIn (drop (recordStart k) list))) (rw (lines-left list k count h) at g) (omega (arith, one .place, short, room)) one
+      next (recordLine (listedIn (drop (recordStart k) list))) (rw (lines-left list k count h) at g) (omega (arith, one .place, short, room)) one
 
   pub records-made : count ≤ k → Wrote b at all m c
   records-made h = ended (rw (no-lines-left list k count h) at g)
@@ -194,14 +226,14 @@ module _ (b list : List ℕ) (count : ℕ) where
     no-room h = (rw (le-leb count (roomOf (length list)) held, lt-leb (longestHead + longestRecordLine * count) (length b) h) (nothing-wrote b 0), omega arith)
 
     module _ (room : longestHead + longestRecordLine * count ≤ length b) where
-      listing-is : textOf (Complete count) list (length b) ≡ headLine count ++ recordLines (recordsIn list 0 count)
+      listing-is : textOf (Complete count) list (length b) ≡ headLine count ++ recordLines (rowAt list 0 count)
       unfolding textOf isMade listingOf
       listing-is = rw (le-leb count (roomOf (length list)) held, le-leb (longestHead + longestRecordLine * count) (length b) room) refl
 
       pub listing-made : {m : ℕ} {c : List ℕ} → Wrote b 0 (headLine count) m c × (m ≤ longestHead) → {r : ℕ} {e : List ℕ}
-          → Wrote c m (recordLines (recordsIn list 0 count)) r e × (r ≤ m + longestRecordLine * count) → Made r e
+          → Wrote c m (recordLines (rowAt list 0 count)) r e × (r ≤ m + longestRecordLine * count) → Made r e
       listing-made {m} {c} one {r} {e} two = (
-        wrote-as (sym listing-is) (behind (headLine count) (recordLines (recordsIn list 0 count)) (one .0) (omega (arith, one .1, room)) (two .0)),
+        wrote-as (sym listing-is) (behind (headLine count) (recordLines (rowAt list 0 count)) (one .0) (omega (arith, one .1, room)) (two .0)),
         omega (arith, one .1, two .1, room),
       )
 

@@ -7,7 +7,7 @@ use native.Mathlib.Omega.{arith}
 use lib.ListN.{drop}
 use lib.Seq.{drop-drop}
 use Rattle.moves.specs.Form.{recordSize, recordLimit, recordStart, roomOf}
-use Rattle.moves.specs.Reading.{recordIn, rowIn, recordsIn}
+use Rattle.moves.specs.Reading.{listedIn, rowIn, rowAt}
 use Rattle.listing.specs.Listing.{recordLine, recordLines}
 
 -- ---- the records of a list
@@ -22,21 +22,21 @@ held bytes count k h l = omega arith
 
 -- the first of the records that are left, and the others
 first-left : (list : List ℕ) (k count : ℕ) → k < count
-    → recordsIn list k (count - k) ≡ recordIn (drop (recordStart k) list) ∷ recordsIn list (k + 1) (count - (k + 1))
+    → rowAt list k (count - k) ≡ listedIn (drop (recordStart k) list) ∷ rowAt list (k + 1) (count - (k + 1))
 unfolding rowIn
 first-left list k count h =
     let n : ℕ = count - (k + 1) in
     let e : count - k ≡ suc n = omega arith in
     let p : recordStart k + recordSize ≡ recordStart (k + 1) = omega arith in
     ap (λ (m : ℕ). rowIn m (drop (recordStart k) list)) e
-    ∙ ap (λ (l : List ℕ). recordIn (drop (recordStart k) list) ∷ rowIn n l) (drop-drop recordSize (recordStart k) list ∙ ap (λ (m : ℕ). drop m list) p)
+    ∙ ap (λ (l : List ℕ). listedIn (drop (recordStart k) list) ∷ rowIn n l) (drop-drop recordSize (recordStart k) list ∙ ap (λ (m : ℕ). drop m list) p)
 
 pub lines-left : (list : List ℕ) (k count : ℕ) → k < count
-    → recordLines (recordsIn list k (count - k)) ≡ recordLine (recordIn (drop (recordStart k) list)) ++ recordLines (recordsIn list (k + 1) (count - (k + 1)))
+    → recordLines (rowAt list k (count - k)) ≡ recordLine (listedIn (drop (recordStart k) list)) ++ recordLines (rowAt list (k + 1) (count - (k + 1)))
 unfolding recordLines
 lines-left list k count h = ap recordLines (first-left list k count h)
 
-pub no-lines-left : (list : List ℕ) (k count : ℕ) → count ≤ k → recordLines (recordsIn list k (count - k)) ≡ []
+pub no-lines-left : (list : List ℕ) (k count : ℕ) → count ≤ k → recordLines (rowAt list k (count - k)) ≡ []
 unfolding recordLines rowIn
 no-lines-left list k count h =
     let e : count - k ≡ 0 = omega arith in ap (λ (m : ℕ). recordLines (rowIn m (drop (recordStart k) list))) e

@@ -1,4 +1,5 @@
--- THE LISTING. 01: "It prints mark, version and count, then kind, flags, X, Z and value for each record; on an alarm the word ALARM, number, place, count."
+-- THE LISTING. 01: "It prints mark, version and count, then kind, flags, X, Z and value for each record; on an alarm the word ALARM, number, place, count." 02, request 7: "the listing gains two
+-- fields at the end of each record's line", the numbers of the program and of the block that the record came from.
 -- Numbers are decimal. One space stands between two of them, and a line feed behind each line.
 use mathlib.Core.Bool.{Bool, cond, _&&_}
 use mathlib.Core.List.{List, [], _∷_, _++_}
@@ -6,8 +7,8 @@ use Prim.Native.Nat.{ℕ, _+_, _*_}
 use lib.Dec.{leb}
 use lib.ListN.{length}
 use Rattle.moves.specs.Form.{version, roomOf}
-use Rattle.moves.specs.Reading.{recordsIn}
-use Rattle.moves.specs.declared.record.Record.{Record}
+use Rattle.moves.specs.Reading.{rowAt}
+use Rattle.moves.specs.declared.record.Listed.{Listed}
 use Rattle.letters.specs.Letters.{lf, space}
 use Rattle.letters.specs.Text.{bytes}
 use Rattle.answers.specs.declared.Answer.{Answer}
@@ -23,13 +24,16 @@ line w (v ∷ vs) = (w ++ (space ∷ [])) ++ line v vs
 unfoldable pub headLine : ℕ → List ℕ
 headLine count = line (bytes "TMV") (decimal version ∷ decimal count ∷ [])
 
--- "then kind, flags, X, Z and value for each record"
-unfoldable pub recordLine : Record → List ℕ
-recordLine r = line (decimal (r .kind)) (decimal (r .flags) ∷ signed (r .x) ∷ signed (r .z) ∷ decimal (r .value) ∷ [])
+-- "then kind, flags, X, Z and value for each record", and program and block
+unfoldable pub recordLine : Listed → List ℕ
+recordLine l =
+    let r = l .what in
+    line (decimal (r .kind))
+    (decimal (r .flags) ∷ signed (r .x) ∷ signed (r .z) ∷ decimal (r .value) ∷ decimal (l .origin .program) ∷ decimal (l .origin .block) ∷ [])
 
-unfoldable pub recordLines : List Record → List ℕ
+unfoldable pub recordLines : List Listed → List ℕ
 recordLines [] = []
-recordLines (r ∷ rs) = recordLine r ++ recordLines rs
+recordLines (l ∷ ls) = recordLine l ++ recordLines ls
 
 -- "on an alarm the word ALARM, number, place, count"
 unfoldable pub alarmLine : ℕ → ℕ → ℕ → List ℕ
@@ -37,15 +41,15 @@ alarmLine alarm place count = line (bytes "ALARM") (decimal alarm ∷ decimal pl
 
 -- THE LISTING of an answer and of the buffer that came with it
 unfoldable pub listingOf : Answer → List ℕ → List ℕ
-listingOf (Complete count) list = headLine count ++ recordLines (recordsIn list 0 count)
+listingOf (Complete count) list = headLine count ++ recordLines (rowAt list 0 count)
 listingOf (Alarm alarm place count) list = alarmLine alarm place count
 
--- the most bytes of each line: a byte has at most 3 digits, a number of 32 bits 10 and a sign, a place or a count 20
+-- the most bytes of each line: a byte has at most 3 digits, a number of 16 bits 5, one of 32 bits 10 and a sign, a place or a count 20
 abbrev pub longestHead : ℕ
 longestHead = 27
 
 abbrev pub longestRecordLine : ℕ
-longestRecordLine = 43
+longestRecordLine = 55
 
 abbrev pub longestAlarm : ℕ
 longestAlarm = 52

@@ -1,24 +1,26 @@
 // The lines of a listing, and the listing as a whole: the head and a line for each record, or the one line of an alarm.
-// (01: "It prints mark, version and count, then kind, flags, X, Z and value for each record; on an alarm the word ALARM, number, place, count.")
+// (01: "It prints mark, version and count, then kind, flags, X, Z and value for each record; on an alarm the word ALARM, number, place, count." 02: "the listing gains two fields at the end of
+// each record's line".)
 use answers::Answer;
 use decimal::put_number;
 use decimal::put_signed;
 use decimal::put_text;
+use moves::record::Origin;
 use moves::record::Record;
 ghost use mathlib.Core.Path.{_≡_};
 ghost use Prim.Native.Nat.{_+_, _*_, _≤_};
 ghost use lib.ListN.{length};
 ghost use Rattle.whole.specs.Bytes.{laid};
-ghost use Rattle.moves.specs.Form.{roomOf};
-ghost use Rattle.moves.specs.Reading.{recordsIn};
+ghost use Rattle.moves.specs.Form.{roomOf, listed};
+ghost use Rattle.moves.specs.Reading.{rowAt};
 ghost use Rattle.answers.specs.declared.Answer.the-variants.{Complete, Alarm};
 ghost use Rattle.decimal.specs.Wrote.{Wrote};
 ghost use Rattle.listing.specs.Listing.{recordLine, recordLines, headLine, textOf, longestHead, longestRecordLine};
 
-// The most bytes of each line: a byte has 3 digits, 32 bits have 10 and a sign, a count or a place 20.
+// The most bytes of each line: a byte has 3 digits, 16 bits have 5, 32 bits 10 and a sign, a count or a place 20.
 pub const LONGEST_HEAD: usize = 27;
 
-pub const LONGEST_RECORD_LINE: usize = 43;
+pub const LONGEST_RECORD_LINE: usize = 55;
 
 pub const LONGEST_ALARM: usize = 52;
 
@@ -26,30 +28,34 @@ const SPACE: u8 = b' ';
 
 const LINE_FEED: u8 = b'\n';
 
-// "kind, flags, X, Z and value"
-fn put_record(out: &mut [u8], at: usize, what: Record) -> usize
+// "kind, flags, X, Z and value", and the numbers of the program and of the block
+fn put_record(out: &mut [u8], at: usize, what: Record, origin: Origin) -> usize
     requires { ⌜ at + longestRecordLine ≤ length (now out) ⌝ }
-    ensures written { λ r. ⌜ Wrote (now (out .entry)) at (recordLine what) r (now (out .exit)) ⌝ }
+    ensures written { λ r. ⌜ Wrote (now (out .entry)) at (recordLine (listed origin what)) r (now (out .exit)) ⌝ }
     ensures short { λ r. ⌜ r ≤ at + longestRecordLine ⌝ }
 {
     let flags = put_number(out, at, what.kind as usize, SPACE);
     let x = put_number(out, flags, what.flags as usize, SPACE);
     let z = put_signed(out, x, what.x, SPACE);
     let value = put_signed(out, z, what.z, SPACE);
-    put_number(out, value, what.value as usize, LINE_FEED)
+    let program = put_number(out, value, what.value as usize, SPACE);
+    let block = put_number(out, program, origin.program as usize, SPACE);
+    put_number(out, block, origin.block as usize, LINE_FEED)
 }
 
 // A line for each of the first so many records of a list. What is listed is what stands in the buffer, not what the run meant to write there; it is read by the reader's function.
 fn put_records(list: &[u8], count: usize, out: &mut [u8], at: usize) -> usize
     requires { ⌜ (count ≤ roomOf (length (now list))) × (at + longestRecordLine * count ≤ length (now out)) ⌝ }
-    ensures written { λ r. ⌜ Wrote (now (out .entry)) at (recordLines (recordsIn (now (list .entry)) 0 count)) r (now (out .exit)) ⌝ }
+    ensures written { λ r. ⌜ Wrote (now (out .entry)) at (recordLines (rowAt (now (list .entry)) 0 count)) r (now (out .exit)) ⌝ }
     ensures short { λ r. ⌜ r ≤ at + longestRecordLine * count ⌝ }
 {
     let mut next = at;
     let mut k = 0;
     while k < count {
-        let what = readback::record::record_at(list, k);
-        next = put_record(out, next, what);
+        let listed = readback::record::listed_at(list, k);
+        let what = listed.what;
+        let origin = listed.origin;
+        next = put_record(out, next, what, origin);
         k += 1;
     }
     next

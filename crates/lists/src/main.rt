@@ -1,11 +1,13 @@
-// Stored lists and what comes of reading each, a line for each: its name, then kind, flags, X, Z and value of the record that is asked for, or `REFUSED` and why; and at the end what the
-// reader's door answers where one number less than a record has is lent.
+// Stored lists of both versions and what comes of reading each, a line for each: its name, then kind, flags, X, Z and value of the record that is asked for, and where the list tells it the program and
+// the block that it came from, or `REFUSED` and why; and at the end what the reader's door answers where one number less than a record has is lent.
 // The file `stdin` holds them, a line for each: a name, a space, the number of the record, a space, and the bytes in hexadecimal digits; `*` behind them repeats the last record until there are
 // as many as the header counts. `stdout` holds what 02 says of each, by a separate reading of it.
 use libc::STDIN_FILENO;
 use libc::STDOUT_FILENO;
 use moves::record::Record;
 use readback::read::ReadBack;
+use readback::read::Source;
+use readback::versions::Version;
 ghost use Prim.Native.Nat.{_<_, _≤_};
 ghost use lib.ListN.{length};
 
@@ -53,22 +55,32 @@ fn decode(text: &[u8], list: &mut [u8; LONGEST]) -> usize
     n
 }
 
+// The version that a header names, for the size of the records that are repeated.
+fn version_of(list: &[u8; LONGEST]) -> Version {
+    if wide(list[moves::AT_VERSION]) == readback::versions::FIRST_VERSION {
+        return Version::One;
+    }
+    Version::Two
+}
+
 // Repeats the last record until the list is as long as its header says.
 fn repeat(list: &mut [u8; LONGEST], from: usize) -> usize
     requires { ⌜ from ≤ 65_536 ⌝ }
     ensures { λ r. ⌜ r ≤ 65_536 ⌝ }
 {
     let count = wide(list[moves::AT_COUNT]) + 256 * wide(list[moves::AT_COUNT + 1]);
-    let end = moves::HEADER_SIZE + moves::RECORD_SIZE * count;
+    let version = version_of(list);
+    let end = readback::versions::record_start(version, count);
+    let size = readback::versions::record_size(version);
     let mut n = from;
     while n < end {
         if n >= LONGEST {
             return n;
         }
-        if n < moves::RECORD_SIZE {
+        if n < size {
             return n;
         }
-        let before = n - moves::RECORD_SIZE;
+        let before = n - size;
         list[n] = list[before];
         n += 1;
     }
@@ -109,11 +121,27 @@ fn print_record(what: Record) {
     io::print_decimal(STDOUT_FILENO, what.value as u64);
 }
 
+// The program and the block, where the list tells them.
+fn print_source(source: Source) {
+    match source {
+        Source::From(origin) => {
+            io::write_all(STDOUT_FILENO, b" ");
+            io::print_decimal(STDOUT_FILENO, origin.program as u64);
+            io::write_all(STDOUT_FILENO, b" ");
+            io::print_decimal(STDOUT_FILENO, origin.block as u64);
+        }
+        Source::Untold => {}
+    }
+}
+
 // What comes of a list and k.
 fn show(list: &[u8], k: usize) {
     let back = readback::read::read_record(list, k);
     match back {
-        ReadBack::Found(what) => print_record(what),
+        ReadBack::Found(what, source) => {
+            print_record(what);
+            print_source(source);
+        }
         ReadBack::Refused(why) => {
             io::write_all(STDOUT_FILENO, b" REFUSED ");
             io::print_decimal(STDOUT_FILENO, why as u64);

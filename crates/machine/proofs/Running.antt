@@ -14,8 +14,10 @@ use Rattle.whole.specs.Position.{inTable}
 use Rattle.whole.proofs.Integers.{whole, lt-false}
 use Rattle.whole.proofs.Laying.{laid-nil}
 use Rattle.whole.proofs.Positions.{in-range, in-table}
-use Rattle.moves.specs.Form.{recordStart, rowBytes}
+use Rattle.moves.specs.Form.{recordStart, rowFrom}
 use Rattle.moves.specs.declared.record.Record.{Record}
+use Rattle.moves.specs.declared.record.Origin.{Origin}
+use Rattle.moves.proofs.Rows.{from-none}
 use Rattle.block.specs.declared.words.Block.{Block}
 use Rattle.settings.specs.Known.{SpanIn, InRange}
 use Rattle.settings.specs.Limits.{outside, outsideSpan}
@@ -52,9 +54,9 @@ module _ (table : List ℤ) (set : Settings) (s : State) (b : Block) where
     unfolding outcomeOf
     refused is = ap Refused is ∙ rw is-refused refl
 
-    pub nothing-written : (l : List ℕ) → l ≡ laid l (recordStart k) (rowBytes (blockRecords table set s b (room - k)))
-    unfolding blockRecords rowBytes
-    nothing-written l = sym (laid-nil l (recordStart k)) ∙ rw is-refused refl
+    pub nothing-written : (o : Origin) (l : List ℕ) → l ≡ laid l (recordStart k) (rowFrom o (blockRecords table set s b (room - k)))
+    unfolding blockRecords
+    nothing-written o l = sym (ap (laid l (recordStart k)) (from-none o) ∙ laid-nil l (recordStart k)) ∙ rw is-refused refl
 
   -- ---- a block that is done
   module _ (left : ℕ) (well : alarmIn table set s b left ≡ 0) where

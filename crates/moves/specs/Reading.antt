@@ -5,7 +5,9 @@ use Prim.Native.Nat.{ℕ, zero, suc}
 use lib.ListN.{getD, take, drop}
 use Rattle.whole.specs.Bytes.{valueOf, signedOf}
 use Rattle.moves.specs.declared.record.Record.{Record}
-use Rattle.moves.specs.Form.{headerSize, recordSize, versionAt, countAt, kindAt, flagsAt, xAt, zAt, valueAt, recordStart}
+use Rattle.moves.specs.declared.record.Origin.{Origin}
+use Rattle.moves.specs.declared.record.Listed.{Listed}
+use Rattle.moves.specs.Form.{headerSize, recordSize, versionAt, countAt, kindAt, flagsAt, xAt, zAt, valueAt, programAt, blockAt, recordStart, listed, whats}
 
 -- the number of the n bytes from place i on
 abbrev pub numberAt : List ℕ → ℕ → ℕ → ℕ
@@ -15,14 +17,26 @@ numberAt b i n = valueOf (take n (drop i b))
 unfoldable pub recordIn : List ℕ → Record
 recordIn b = record { kind = getD b kindAt 0; flags = getD b flagsAt 0; x = signedOf (numberAt b xAt 4); z = signedOf (numberAt b zAt 4); value = numberAt b valueAt 4 }
 
--- so many records, from the front of some bytes on
-unfoldable pub rowIn : ℕ → List ℕ → List Record
-rowIn zero b = []
-rowIn (suc n) b = recordIn b ∷ rowIn n (drop recordSize b)
+-- the block that it came from
+unfoldable pub originIn : List ℕ → Origin
+originIn b = record { program = numberAt b programAt 2; block = numberAt b blockAt 2 }
 
--- n records of a buffer, from record k on
+-- both
+abbrev pub listedIn : List ℕ → Listed
+listedIn b = listed (originIn b) (recordIn b)
+
+-- so many records, from the front of some bytes on
+unfoldable pub rowIn : ℕ → List ℕ → List Listed
+rowIn zero b = []
+rowIn (suc n) b = listedIn b ∷ rowIn n (drop recordSize b)
+
+-- n records of a buffer, from record k on, each with the block that it came from
+abbrev pub rowAt : List ℕ → ℕ → ℕ → List Listed
+rowAt b k n = rowIn n (drop (recordStart k) b)
+
+-- what is done by them
 abbrev pub recordsIn : List ℕ → ℕ → ℕ → List Record
-recordsIn b k n = rowIn n (drop (recordStart k) b)
+recordsIn b k n = whats (rowAt b k n)
 
 -- the version and the count that a header gives
 abbrev pub versionIn : List ℕ → ℕ
@@ -32,5 +46,5 @@ abbrev pub countIn : List ℕ → ℕ
 countIn b = numberAt b countAt 2
 
 -- the list that a buffer holds, where its bytes begin with those of a list
-unfoldable pub listIn : List ℕ → List Record
+unfoldable pub listIn : List ℕ → List Listed
 listIn b = rowIn (countIn b) (drop headerSize b)

@@ -4,7 +4,8 @@ ghost use mathlib.Core.Path.{_≡_};
 ghost use Prim.Native.Nat.{_+_, _≤_};
 ghost use lib.ListN.{length};
 ghost use Rattle.whole.specs.Bytes.{laid};
-ghost use Rattle.moves.specs.Form.{headerSize, recordSize, recordStart, roomOf, recordBytes, headerBytes};
+ghost use Rattle.moves.specs.Form.{headerSize, recordSize, recordStart, roomOf, listed, recordBytes, headerBytes};
+use crate::record::Origin;
 use crate::record::Record;
 
 // How many records a buffer of so many bytes has room for, within the limit.
@@ -21,28 +22,35 @@ pub fn room(bytes: usize) -> usize
     crate::RECORD_LIMIT
 }
 
-// Writes a record at the front of the part that it is lent, which begins at the record's first byte.
+// Writes a record, and at its end the block that it came from, at the front of the part that it is lent, which begins at the record's first byte.
 // Whoever lends the part has asked for the room before: a block is refused as a whole where it has none (alarm 20).
-pub fn put_record(part: &mut [u8], what: Record)
+pub fn put_record(part: &mut [u8], what: Record, origin: Origin)
     requires { ⌜ recordSize ≤ length (now part) ⌝ }
-    ensures { λ _. ⌜ now (part .exit) ≡ laid (now (part .entry)) 0 (recordBytes what) ⌝ }
+    ensures { λ _. ⌜ now (part .exit) ≡ laid (now (part .entry)) 0 (recordBytes (listed origin what)) ⌝ }
 {
     let x = whole::bytes::bytes_of_i32(what.x);
     let z = whole::bytes::bytes_of_i32(what.z);
     let value = whole::bytes::bytes_of_u32(what.value);
+    let program = whole::bytes::bytes_of_u16(origin.program);
+    let block = whole::bytes::bytes_of_u16(origin.block);
     whole::bytes::put_four(part, crate::AT_KIND, [what.kind, what.flags, 0, 0]);
     whole::bytes::put_four(part, crate::AT_X, x);
     whole::bytes::put_four(part, crate::AT_Z, z);
     whole::bytes::put_four(part, crate::AT_VALUE, value);
+    whole::bytes::put_four(
+        part,
+        crate::AT_PROGRAM,
+        [program[0], program[1], block[0], block[1]],
+    );
 }
 
 // Writes record number k, from 0, of the list. (01: "written into the room after the header".)
-pub fn write_record(buf: &mut [u8], k: usize, what: Record)
+pub fn write_record(buf: &mut [u8], k: usize, what: Record, origin: Origin)
     requires { ⌜ recordStart k + recordSize ≤ length (now buf) ⌝ }
-    ensures { λ _. ⌜ now (buf .exit) ≡ laid (now (buf .entry)) (recordStart k) (recordBytes what) ⌝ }
+    ensures { λ _. ⌜ now (buf .exit) ≡ laid (now (buf .entry)) (recordStart k) (recordBytes (listed origin what)) ⌝ }
 {
     let first = crate::HEADER_SIZE + crate::RECORD_SIZE * k;
-    put_record(&mut buf[first..], what);
+    put_record(&mut buf[first..], what, origin);
 }
 
 // Writes the header of a list of so many records. (01: "The header is written only when the run succeeds".)

@@ -1,4 +1,4 @@
-// A record of the list: what is done, and the machine position after it, with a function for each kind.
+// A record of the list: what is done, and the machine position after it, with a function for each kind; and the block that it came from, which is put on where it is written.
 // The kinds' numbers and flags stand here, and in specs/Kinds.antt for the contracts.
 ghost use mathlib.Core.Path.{_≡_};
 ghost use mathlib.Core.Bool.{cond};
@@ -10,6 +10,18 @@ pub struct Record {
     pub x: i32,
     pub z: i32,
     pub value: u32,
+}
+
+// The block that a record came from: the number of its program, and its own. (02, request 7: "For a move inside a subprogram it is the subprogram's block".)
+pub struct Origin {
+    pub program: u16,
+    pub block: u16,
+}
+
+// A record as it stands in a list, with the block that it came from.
+pub struct Listed {
+    pub what: Record,
+    pub origin: Origin,
 }
 
 impl Record {

@@ -33,6 +33,7 @@ use Rattle.steps.specs.Steps.{Task, taskOf, Step, blockOn, runAfter}
 use Rattle.steps.specs.declared.step.Run.{Run}
 use Rattle.steps.proofs.Stepping.{worded-on}
 use Rattle.runners.specs.Runs.{recordsOf, programRun}
+use Rattle.runners.proofs.Going.{listed-whats}
 use Rattle.answers.specs.Answers.{startOf, numberOf, countOf}
 use Rattle.interpreter.specs.Answers.{Result, mainAt, refused, resultOf, interpretation, bufferOf}
 use Rattle.settings.specs.Points.{withPoints}
@@ -128,13 +129,13 @@ module _ (tape : List ℕ) (table : List ℤ) (set : Settings) (size : ℕ) (b :
   shown : Shown (interpretation tape table set size (length b))
   shown =
       every-result (λ _. Shown) tape table set size (length b) (λ _ alarm place _ _ _. none-shown alarm place)
-      (λ h _ _ k first end p on. run-shown (taskOf (take end tape) table (withPoints false set) first (length b)) (k .range) (start-sound (set .x) (set .z) (k .starts .x) (k .starts .z)) (mainAt set p) on)
+      (λ h _ _ k first end p on _. run-shown (taskOf (take end tape) table (withPoints false set) first (length b)) (k .range) (start-sound (set .x) (set .z) (k .starts .x) (k .starts .z)) (mainAt set p) on)
 
   -- EVERY LIST THAT A RUN WRITES IS READ BACK
   pub list-is-read : ListIsRead tape table set size b
   list-is-read count e =
       let l : IsList count (bufferOf tape table set size b) (recordsRun tape table set size b) =
       subst (λ (n : ℕ). IsList n (bufferOf tape table set size b) (recordsRun tape table set size b)) (ap countOf e) (demand-two tape table set size b (ap numberOf e)) in
-      let lawful : Lawful (recordsRun tape table set size b) = record { few = l .lawful .few; each = l .lawful .each; right = shown .records } in
+      let lawful : Lawful (recordsRun tape table set size b) = record { few = l .lawful .few; each = l .lawful .each; right = ap rightRow (listed-whats (interpretation tape table set size (length b) .steps)) ∙ shown .records } in
       let form : WrittenForm (listAfter tape table set size b count) (recordsRun tape table set size b) = record { lawful = lawful; bytes = l .written } in
       (form, written-is-read (listAfter tape table set size b count) (recordsRun tape table set size b) form)

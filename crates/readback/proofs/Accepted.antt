@@ -1,96 +1,137 @@
 -- What is known of a list that was judged good, and which of its ways a reading takes.
 -- Assumes nothing.
-use mathlib.Core.Path.{_≡_, refl, sym, ap, _∙_}
+use mathlib.Core.Path.{_≡_, refl, sym, ap, _∙_, subst}
 use mathlib.Core.Bool.{Bool, true, false, cond}
 use mathlib.Core.List.{List}
 use Prim.Native.Nat.{ℕ, _+_, _<_, _≤_}
 use native.Mathlib.Omega.{arith}
-use lib.Dec.{ltb}
+use lib.Dec.{ltb, eqb}
 use lib.ListN.{length}
-use borrow.Author.Tests.{ltb-true, ltb-false, lt-ltb, le-ltb}
-use Rattle.moves.specs.Form.{recordSize, recordLimit, recordStart}
-use Rattle.moves.specs.Reading.{countIn}
+use borrow.Author.Tests.{ltb-true, ltb-false, lt-ltb, le-ltb, eqb-true}
+use Rattle.moves.specs.Form.{headerSize, version}
+use Rattle.moves.specs.Reading.{versionIn, countIn}
 use Rattle.readback.specs.Refusals.{badMark, badVersion, badLength, badRecord, badIndex}
-use Rattle.readback.specs.Lists.{markWrong, versionWrong, lengthWrong, recordsWrong, judged, recordAt, pickedFrom, readOf, heldBy, readJudged}
+use Rattle.readback.specs.Versions.{firstVersion, numberOf, sizeIn, limitIn, startIn}
+use Rattle.readback.specs.Lists.{markWrong, lengthWrong, recordsWrong, judgedAs, judged, foundAt, pickedFrom, readOf, versionNamed, heldBy, readAs, readJudged}
+use Rattle.readback.specs.declared.versions.Version.{Version}
+use Rattle.readback.specs.declared.versions.Version.the-variants.{One, Two}
+use Rattle.readback.specs.declared.judging.Judged.{Judged}
 use Rattle.readback.specs.declared.judging.Judged.the-variants.{Good, Refused}
+use Rattle.readback.specs.declared.read.ReadBack.{ReadBack}
 use Rattle.readback.specs.declared.read.ReadBack.the-variants as read
-use Rattle.readback.proofs.Judges.{right-length, right-count}
+use Rattle.readback.proofs.Judges.{right-length, right-count, within, named-first, named-second}
 
 -- no test refuses it
-pub record Passed (b : List ℕ) (n : ℕ) : Type 0 where
+pub record Passed (v : Version) (b : List ℕ) (n : ℕ) : Type 0 where
   pub mark : markWrong b ≡ false
-  pub version : versionWrong b ≡ false
-  pub length : lengthWrong b ≡ false
-  pub records : recordsWrong b ≡ false
+  pub version : versionIn b ≡ numberOf v
+  pub length : lengthWrong v b ≡ false
+  pub records : recordsWrong v b ≡ false
   pub count : n ≡ countIn b
 
-no-refusal : (why n : ℕ) → Refused why ≡ Good n → ⊥
-no-refusal why n h = let z : _≡_ {A = ℕ} 0 1 = cc in omega arith
+no-refusal : (why n : ℕ) (v : Version) → Refused why ≡ Good v n → ⊥
+no-refusal why n v h = let z : _≡_ {A = ℕ} 0 1 = cc in omega arith
 
-same-count : (k n : ℕ) → Good k ≡ Good n → n ≡ k
-same-count k n h = cc
+same-count : (v w : Version) (k n : ℕ) → Good v k ≡ Good w n → n ≡ k
+same-count v w k n h = cc
 
-passed-by : (m v l r : Bool) (k n : ℕ) → cond m (Refused badMark) (cond v (Refused badVersion) (cond l (Refused badLength) (cond r (Refused badRecord) (Good k)))) ≡ Good n
-    → (m ≡ false) × (v ≡ false) × (l ≡ false) × (r ≡ false) × (n ≡ k)
-passed-by true v l r k n h = absurd (no-refusal badMark n h)
-passed-by false true l r k n h = absurd (no-refusal badVersion n h)
-passed-by false false true r k n h = absurd (no-refusal badLength n h)
-passed-by false false false true k n h = absurd (no-refusal badRecord n h)
-passed-by false false false false k n h = (refl, refl, refl, refl, same-count k n h)
+same-version : (v w : Version) (k n : ℕ) → Good v k ≡ Good w n → v ≡ w
+same-version v w k n h = cc
 
-module _ (b : List ℕ) (n : ℕ) (good : judged b ≡ Good n) where
-  pub passed : Passed b n
-  unfolding judged
-  passed =
-      let p = passed-by (markWrong b) (versionWrong b) (lengthWrong b) (recordsWrong b) (countIn b) n good in
-      record { mark = p .0; version = p .1; length = p .2; records = p .3; count = p .4 }
+passed-by : (v w : Version) (l r : Bool) (k n : ℕ) → cond l (Refused badLength) (cond r (Refused badRecord) (Good v k)) ≡ Good w n
+    → (l ≡ false) × (r ≡ false) × (n ≡ k) × (v ≡ w)
+passed-by v w true r k n h = absurd (no-refusal badLength n w h)
+passed-by v w false true k n h = absurd (no-refusal badRecord n w h)
+passed-by v w false false k n h = (refl, refl, same-count v w k n h, same-version v w k n h)
 
-  -- it is as long as its records are, and has no more than the limit
-  pub good-length : length b ≡ recordStart n
-  good-length = right-length b n (passed .count) (passed .length)
+module _ (b : List ℕ) (n : ℕ) where
+  as-passed : (v w : Version) → markWrong b ≡ false → versionIn b ≡ numberOf v → judgedAs v b ≡ Good w n → Passed w b n
+  unfolding judgedAs
+  as-passed v w m e h =
+      let p = passed-by v w (lengthWrong v b) (recordsWrong v b) (countIn b) n h in
+      subst (λ (u : Version). Passed u b n) (p .3) (record { mark = m; version = e; length = p .0; records = p .1; count = p .2 })
 
-  pub good-count : n ≤ recordLimit
-  good-count = right-count b n (passed .count) (passed .length)
+  by-version : (w : Version) (m p q : Bool) → markWrong b ≡ m → eqb (versionIn b) firstVersion ≡ p → eqb (versionIn b) version ≡ q
+      → cond m (Refused badMark) (cond p (judgedAs One b) (cond q (judgedAs Two b) (Refused badVersion))) ≡ Good w n → Passed w b n
+  by-version w true p q m e f h = absurd (no-refusal badMark n w h)
+  by-version w false true q m e f h = as-passed One w m (eqb-true (versionIn b) firstVersion e) h
+  by-version w false false true m e f h = as-passed Two w m (eqb-true (versionIn b) version f) h
+  by-version w false false false m e f h = absurd (no-refusal badVersion n w h)
 
-  -- EACH OF ITS RECORDS LIES IN IT: who has judged the list takes them one after the other
-  pub has : (k : ℕ) → k < n → recordStart k + recordSize ≤ length b
-  has k h = omega (arith, good-length)
+  module _ (v : Version) (good : judged b ≡ Good v n) where
+    pub passed : Passed v b n
+    unfolding judged
+    passed = by-version v (markWrong b) (eqb (versionIn b) firstVersion) (eqb (versionIn b) version) refl refl refl good
 
-  -- a reading of record k
-  pub found : (k : ℕ) → k < n → read.Found (recordAt b k) ≡ readOf b k
-  unfolding readOf
-  found k h = sym (ap (pickedFrom b k) good ∙ ap (λ (t : Bool). cond t (read.Found (recordAt b k)) (read.Refused badIndex)) (lt-ltb k n h))
+    -- it is as long as its records are, and has no more than the limit
+    pub good-length : length b ≡ startIn v n
+    good-length = right-length b v n (passed .count) (passed .length)
 
-  pub no-such : (k : ℕ) → n ≤ k → read.Refused badIndex ≡ readOf b k
-  unfolding readOf
-  no-such k h = sym (ap (pickedFrom b k) good ∙ ap (λ (t : Bool). cond t (read.Found (recordAt b k)) (read.Refused badIndex)) (le-ltb k n h))
+    pub good-count : n ≤ limitIn v
+    good-count = right-count b v n (passed .count) (passed .length)
+
+    -- EACH OF ITS RECORDS LIES IN IT: who has judged the list takes them one after the other
+    pub has : (k : ℕ) → k < n → startIn v k + sizeIn v ≤ length b
+    has k h = omega (arith, good-length, within v k n h)
+
+    -- a reading of record k
+    pub found : (k : ℕ) → k < n → foundAt v b k ≡ readOf b k
+    unfolding readOf
+    found k h = sym (ap (pickedFrom b k) good ∙ ap (λ (t : Bool). cond t (foundAt v b k) (read.Refused badIndex)) (lt-ltb k n h))
+
+    pub no-such : (k : ℕ) → n ≤ k → read.Refused badIndex ≡ readOf b k
+    unfolding readOf
+    no-such k h = sym (ap (pickedFrom b k) good ∙ ap (λ (t : Bool). cond t (foundAt v b k) (read.Refused badIndex)) (le-ltb k n h))
+
+    -- a reading of any k, where it is known what the records within the count are
+    pub every-k : (k : ℕ) (x : ReadBack) → (k < n → foundAt v b k ≡ x) → (n ≤ k → read.Refused badIndex ≡ x) → readOf b k ≡ x
+    every-k k x there none = by-test (ltb k n) refl
+      where
+        by-test : (t : Bool) → ltb k n ≡ t → readOf b k ≡ x
+        by-test true e = let h = ltb-true k n e in sym (found k h) ∙ there h
+        by-test false e = let h = ltb-false k n e in sym (no-such k h) ∙ none h
 
 -- A RECORD OF A LIST THAT WAS JUDGED is read without judging it again
+held-start : (v : Version) (b : List ℕ) (k : ℕ) → headerSize ≤ length b → k < heldBy v b → startIn v k + sizeIn v ≤ length b
+held-start One b k l h = omega (arith, l, h)
+held-start Two b k l h = omega (arith, l, h)
+
+held-many : (v : Version) (b : List ℕ) (n : ℕ) → length b ≡ startIn v n → heldBy v b ≡ n
+held-many One b n e = omega (arith, e)
+held-many Two b n e = omega (arith, e)
+
+none-held : (v : Version) (b : List ℕ) → length b < headerSize → heldBy v b ≡ 0
+none-held One b h = omega (arith, h)
+none-held Two b h = omega (arith, h)
+
 module _ (b : List ℕ) where
-  pub held : (k : ℕ) → k < heldBy b → recordStart k + recordSize ≤ length b
-  held k h = omega (arith, h)
+  module _ (v : Version) (h : ℕ) (many : h ≡ heldBy v b) where
+    pub held : (k : ℕ) → headerSize ≤ length b → k < h → startIn v k + sizeIn v ≤ length b
+    held k l m = held-start v b k l (omega (arith, many, m))
 
-  pub held-found : (k : ℕ) → k < heldBy b → read.Found (recordAt b k) ≡ readJudged b k
+    pub held-found : (k : ℕ) → k < h → foundAt v b k ≡ readAs v b k
+    unfolding readAs
+    held-found k m = ap (λ (t : Bool). cond t (foundAt v b k) (read.Refused badIndex)) (sym (lt-ltb k (heldBy v b) (omega (arith, many, m))))
+
+    pub not-held : (k : ℕ) → h ≤ k → read.Refused badIndex ≡ readAs v b k
+    unfolding readAs
+    not-held k m = ap (λ (t : Bool). cond t (foundAt v b k) (read.Refused badIndex)) (sym (le-ltb k (heldBy v b) (omega (arith, many, m))))
+
+  -- under a header's length nothing is held
+  pub too-short : (k : ℕ) → length b < headerSize → read.Refused badIndex ≡ readJudged b k
   unfolding readJudged
-  held-found k h = ap (λ (t : Bool). cond t (read.Found (recordAt b k)) (read.Refused badIndex)) (sym (lt-ltb k (heldBy b) h))
+  too-short k h = let v = versionNamed b in not-held v 0 (sym (none-held v b h)) k (omega arith)
 
-  pub not-held : (k : ℕ) → heldBy b ≤ k → read.Refused badIndex ≡ readJudged b k
+  named : (v : Version) → versionIn b ≡ numberOf v → versionNamed b ≡ v
+  named One e = sym (named-first b (versionIn b) refl e)
+  named Two e = sym (named-second b (versionIn b) refl (λ z. omega (arith, e, z)))
+
+  pub once-judged : (v : Version) (n : ℕ) → judged b ≡ Good v n → (k : ℕ) → readJudged b k ≡ readOf b k
   unfolding readJudged
-  not-held k h = ap (λ (t : Bool). cond t (read.Found (recordAt b k)) (read.Refused badIndex)) (sym (le-ltb k (heldBy b) h))
-
-  pub once-judged : (n : ℕ) → judged b ≡ Good n → (k : ℕ) → readJudged b k ≡ readOf b k
-  once-judged n good k = by-test (ltb k n) refl
-    where
-      many : heldBy b ≡ n
-      many = omega (arith, good-length b n good)
-
-      by-test : (t : Bool) → ltb k n ≡ t → readJudged b k ≡ readOf b k
-      by-test true e =
-          let h = ltb-true k n e in
-          sym (held-found k (omega (arith, many, h))) ∙ found b n good k h
-      by-test false e =
-          let h = ltb-false k n e in
-          sym (not-held k (omega (arith, many, h))) ∙ no-such b n good k h
+  once-judged v n good k =
+      let many : n ≡ heldBy v b = sym (held-many v b n (good-length b n v good)) in
+      ap (λ (u : Version). readAs u b k) (named v (passed b n v good .version))
+      ∙ sym (every-k b n v good k (readAs v b k) (λ h. held-found v n many k h) (λ h. not-held v n many k h))
 
 pub not-read : (b : List ℕ) (why : ℕ) → judged b ≡ Refused why → (k : ℕ) → read.Refused why ≡ readOf b k
 unfolding readOf

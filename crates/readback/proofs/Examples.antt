@@ -3,55 +3,90 @@
 use mathlib.Core.Path.{_≡_, refl}
 use mathlib.Core.Bool.{true, false}
 use mathlib.Core.List.{List, [], _∷_, _++_}
+use Prim.Native.Nat.{ℕ}
 use lib.IntN.{pos}
 use Rattle.whole.specs.Bytes.{signedBytes, signedOf}
 use Rattle.whole.specs.Position.{inTable}
 use Rattle.whole.specs.Signed.{minus}
-use Rattle.moves.specs.Form.{headerBytes, recordBytes, rowBytes, listBytes}
+use Rattle.moves.specs.Form.{headerBytes, whatBytes, originBytes, recordBytes, rowBytes, listBytes, listed, roomOf}
 use Rattle.moves.specs.Kinds.{flagged, plain, rapid, feed, miscellaneous}
-use Rattle.moves.specs.Reading.{recordIn, rowIn, listIn}
-use Rattle.moves.specs.declared.record.Record.{Record}
+use Rattle.moves.specs.Reading.{recordIn, originIn}
+use Rattle.moves.specs.declared.record.Origin.{Origin}
+use Rattle.moves.specs.declared.record.Listed.{Listed}
 use Rattle.readback.specs.Refusals.{badMark, badVersion, badLength, badIndex}
 use Rattle.readback.specs.Right.{flagOf, placeRight, isRight, rightFrom}
-use Rattle.readback.specs.Lists.{markWrong, versionWrong, lengthWrong, sparesZero, recordsWrong, judged, readOf}
+use Rattle.readback.specs.Lists.{markWrong, lengthWrong, recordsEvery, sparesZero, recordsWrong, judgedAs, judged, foundAt, readOf}
+use Rattle.readback.specs.Laws.{firstHeader, firstRow}
+use Rattle.readback.specs.declared.versions.Version.the-variants.{One, Two}
 use Rattle.readback.specs.declared.judging.Judged.the-variants.{Good, Refused}
+use Rattle.readback.specs.declared.read.Source.the-variants.{From, Untold}
 use Rattle.readback.specs.declared.read.ReadBack.the-variants as read
 
--- ---- an arc between a rapid and M30
-abbrev arc : List Record
-arc = rapid (pos 40000) (pos 2000) ∷ flagged 8 1 (pos 42000) (pos 1000) 120 ∷ plain 10 (pos 40000) (pos 1000) 0 ∷ miscellaneous (pos 42000) (pos 1000) 30 ∷ []
+-- ---- an arc between a rapid and M30, of the second and of the third block of a subprogram and of a block of the main program
+abbrev at : ℕ → ℕ → Origin
+at program block = record { program = program; block = block }
 
-pub is-good : judged (listBytes arc) ≡ Good 4
-unfolding listBytes headerBytes rowBytes recordBytes signedBytes signedOf recordIn rowIn listIn flagOf placeRight isRight rightFrom inTable markWrong versionWrong lengthWrong sparesZero recordsWrong judged
+abbrev arc : List Listed
+arc = listed (at 80 20) (rapid (pos 40000) (pos 2000)) ∷ listed (at 80 30) (flagged 8 1 (pos 42000) (pos 1000) 120) ∷ listed (at 80 30) (plain 10 (pos 40000) (pos 1000) 0)
+    ∷ listed (at 1 9999) (miscellaneous (pos 42000) (pos 1000) 30) ∷ []
+
+pub is-good : judged (listBytes arc) ≡ Good Two 4
+unfolding listBytes headerBytes rowBytes recordBytes whatBytes originBytes signedBytes signedOf recordIn originIn recordsEvery flagOf placeRight isRight rightFrom inTable markWrong lengthWrong sparesZero recordsWrong judgedAs judged
 is-good = refl
 
-pub third : readOf (listBytes arc) 2 ≡ read.Found (plain 10 (pos 40000) (pos 1000) 0)
-unfolding listBytes headerBytes rowBytes recordBytes signedBytes signedOf recordIn rowIn listIn flagOf placeRight isRight rightFrom inTable markWrong versionWrong lengthWrong sparesZero recordsWrong judged readOf
+pub third : readOf (listBytes arc) 2 ≡ read.Found (plain 10 (pos 40000) (pos 1000) 0) (From (at 80 30))
+unfolding listBytes headerBytes rowBytes recordBytes whatBytes originBytes signedBytes signedOf recordIn originIn recordsEvery flagOf placeRight isRight rightFrom inTable markWrong lengthWrong sparesZero recordsWrong judgedAs judged foundAt readOf
 third = refl
 
 pub no-fifth : readOf (listBytes arc) 4 ≡ read.Refused badIndex
-unfolding listBytes headerBytes rowBytes recordBytes signedBytes signedOf recordIn rowIn listIn flagOf placeRight isRight rightFrom inTable markWrong versionWrong lengthWrong sparesZero recordsWrong judged readOf
+unfolding listBytes headerBytes rowBytes recordBytes whatBytes originBytes signedBytes signedOf recordIn originIn recordsEvery flagOf placeRight isRight rightFrom inTable markWrong lengthWrong sparesZero recordsWrong judgedAs judged foundAt readOf
 no-fifth = refl
 
+-- ---- the bytes of a list of one record, M30 of block 30 of program 1, and how many records have room
+pub written-bytes : listBytes (listed (at 1 30) (miscellaneous (pos 60000) (pos 50000) 30) ∷ [])
+    ≡ 84 ∷ 77 ∷ 86 ∷ 2 ∷ 0 ∷ 1 ∷ 0 ∷ 0 ∷ 6 ∷ 0 ∷ 0 ∷ 0 ∷ 96 ∷ 234 ∷ 0 ∷ 0 ∷ 80 ∷ 195 ∷ 0 ∷ 0 ∷ 30 ∷ 0 ∷ 0 ∷ 0 ∷ 1 ∷ 0 ∷ 30 ∷ 0 ∷ []
+unfolding listBytes headerBytes rowBytes recordBytes whatBytes originBytes signedBytes
+written-bytes = refl
+
+pub room-for-all : roomOf 64_008 ≡ 3_200
+unfolding roomOf
+room-for-all = refl
+
+pub room-for-one-less : roomOf 64_007 ≡ 3_199
+unfolding roomOf
+room-for-one-less = refl
+
+-- ---- a list of version 1: its record has no block, which is not the same as program 0 and block 0
+abbrev first : List ℕ
+first = firstHeader 1 ++ firstRow (rapid (pos 40000) (pos 2000) ∷ [])
+
+pub first-good : judged first ≡ Good One 1
+unfolding firstHeader firstRow whatBytes signedBytes signedOf recordIn recordsEvery flagOf placeRight isRight rightFrom inTable markWrong lengthWrong sparesZero recordsWrong judgedAs judged
+first-good = refl
+
+pub first-untold : readOf first 0 ≡ read.Found (rapid (pos 40000) (pos 2000)) Untold
+unfolding firstHeader firstRow whatBytes signedBytes signedOf recordIn recordsEvery flagOf placeRight isRight rightFrom inTable markWrong lengthWrong sparesZero recordsWrong judgedAs judged foundAt readOf
+first-untold = refl
+
 -- ---- each refusal
-pub none : judged (listBytes []) ≡ Good 0
-unfolding listBytes headerBytes rowBytes rowIn listIn rightFrom markWrong versionWrong lengthWrong sparesZero recordsWrong judged
+pub none : judged (listBytes []) ≡ Good Two 0
+unfolding listBytes headerBytes rowBytes recordsEvery rightFrom markWrong lengthWrong sparesZero recordsWrong judgedAs judged
 none = refl
 
 pub seven-bytes : judged (84 ∷ 77 ∷ 86 ∷ 1 ∷ 0 ∷ 0 ∷ 0 ∷ []) ≡ Refused badMark
 unfolding markWrong judged
 seven-bytes = refl
 
-pub second-version : judged (84 ∷ 77 ∷ 86 ∷ 2 ∷ 0 ∷ 0 ∷ 0 ∷ 0 ∷ []) ≡ Refused badVersion
-unfolding markWrong versionWrong judged
-second-version = refl
+pub third-version : judged (84 ∷ 77 ∷ 86 ∷ 3 ∷ 0 ∷ 0 ∷ 0 ∷ 0 ∷ []) ≡ Refused badVersion
+unfolding markWrong judged
+third-version = refl
 
 pub spare-in-header : judged (84 ∷ 77 ∷ 86 ∷ 1 ∷ 0 ∷ 0 ∷ 0 ∷ 1 ∷ []) ≡ Refused badLength
-unfolding markWrong versionWrong lengthWrong judged
+unfolding markWrong lengthWrong judgedAs judged
 spare-in-header = refl
 
 pub one-byte-more : judged (listBytes [] ++ (0 ∷ [])) ≡ Refused badLength
-unfolding listBytes headerBytes rowBytes markWrong versionWrong lengthWrong judged
+unfolding listBytes headerBytes rowBytes markWrong lengthWrong judgedAs judged
 one-byte-more = refl
 
 -- ---- rows of records

@@ -3,18 +3,21 @@
 use mathlib.Core.Path.{_≡_, refl, sym, ap, _∙_}
 use mathlib.Core.Bool.{Bool, true, false, cond, not, _&&_, _||_}
 use mathlib.Core.List.{List}
-use Prim.Native.Nat.{ℕ, suc, _+_, _-_, _*_, _<_, _≤_}
+use Prim.Native.Nat.{ℕ, suc, _+_, _-_, _<_, _≤_}
 use native.Mathlib.Omega.{arith}
 use lib.Dec.{ltb, eqb}
 use lib.ListN.{length, getD, drop}
 use lib.Seq.{drop-drop, getD-drop}
 use borrow.Author.Tests.{ltb-false, eqb-true, not-false, lt-ltb, le-ltb, eq-eqb, ne-eqb}
-use Rattle.moves.specs.Form.{headerSize, recordSize, recordLimit, version, headerZeroAt, recordStart}
+use Rattle.moves.specs.Form.{headerSize, version, headerZeroAt, programAt}
 use Rattle.moves.specs.Kinds.{feedKind, speedKind, isArc, inTurn, flagG95, flagG96}
-use Rattle.moves.specs.Reading.{versionIn, recordIn, rowIn, countIn, listIn}
+use Rattle.moves.specs.Reading.{versionIn, recordIn, countIn}
 use Rattle.readback.specs.Refusals.{badMark, badVersion, badLength, badRecord}
 use Rattle.readback.specs.Right.{flagOf, isRight, rightFrom}
-use Rattle.readback.specs.Lists.{markDiffers, markWrong, versionWrong, lengthWrong, spareZero, sparesZero, recordsWrong, judged, recordAt}
+use Rattle.readback.specs.Versions.{firstVersion, sizeIn, limitIn, startIn}
+use Rattle.readback.specs.Lists.{markDiffers, markWrong, lengthWrong, recordsEvery, spareZero, sparesZero, recordsWrong, judgedAs, judged, versionNamed}
+use Rattle.readback.specs.declared.versions.Version.{Version}
+use Rattle.readback.specs.declared.versions.Version.the-variants.{One, Two}
 use Rattle.readback.specs.declared.judging.Judged.the-variants.{Good, Refused}
 
 one-zero : _≡_ {A = ℕ} 1 0 → ⊥
@@ -70,84 +73,97 @@ module _ (b : List ℕ) where
   unfolding markWrong
   long-enough h = ltb-false (length b) headerSize (none-true (ltb (length b) headerSize) _ h .0)
 
-  module _ (n : ℕ) (e : n ≡ countIn b) where
-    pub over-limit : recordLimit < n → true ≡ lengthWrong b
+  module _ (v : Version) (n : ℕ) (e : n ≡ countIn b) where
+    pub over-limit : limitIn v < n → true ≡ lengthWrong v b
     unfolding lengthWrong
-    over-limit h = rw (lt-ltb recordLimit (countIn b) (omega (arith, e, h))) refl
+    over-limit h = rw (lt-ltb (limitIn v) (countIn b) (omega (arith, e, h))) refl
 
-    pub within-limit : n ≤ recordLimit → (not (eqb (length b) (headerSize + recordSize * n)) || not (eqb (getD b headerZeroAt 0) 0)) ≡ lengthWrong b
+    pub within-limit : n ≤ limitIn v → (not (eqb (length b) (startIn v n)) || not (eqb (getD b headerZeroAt 0) 0)) ≡ lengthWrong v b
     unfolding lengthWrong
-    within-limit h = (λ i. not (eqb (length b) (headerSize + recordSize * e i)) || not (eqb (getD b headerZeroAt 0) 0)) ∙ rw (le-ltb recordLimit (countIn b) (omega (arith, e, h))) refl
+    within-limit h = (λ i. not (eqb (length b) (startIn v (e i))) || not (eqb (getD b headerZeroAt 0) 0)) ∙ rw (le-ltb (limitIn v) (countIn b) (omega (arith, e, h))) refl
 
-    pub right-length : lengthWrong b ≡ false → length b ≡ recordStart n
+    pub right-length : lengthWrong v b ≡ false → length b ≡ startIn v n
     unfolding lengthWrong
     right-length h =
-        let k = none-true (ltb recordLimit (countIn b)) _ h .1 in
-        eqb-true (length b) (recordStart (countIn b)) (not-false _ (none-true (not (eqb (length b) (recordStart (countIn b)))) _ k .0)) ∙ ap recordStart (sym e)
+        let k = none-true (ltb (limitIn v) (countIn b)) _ h .1 in
+        eqb-true (length b) (startIn v (countIn b)) (not-false _ (none-true (not (eqb (length b) (startIn v (countIn b)))) _ k .0)) ∙ ap (startIn v) (sym e)
 
-    pub right-count : lengthWrong b ≡ false → n ≤ recordLimit
+    pub right-count : lengthWrong v b ≡ false → n ≤ limitIn v
     unfolding lengthWrong
-    right-count h = omega (arith, e, ltb-false recordLimit (countIn b) (none-true (ltb recordLimit (countIn b)) _ h .0))
+    right-count h = omega (arith, e, ltb-false (limitIn v) (countIn b) (none-true (ltb (limitIn v) (countIn b)) _ h .0))
 
--- ---- the records, one after the other
--- what is still to be asked of n records, at the front of some bytes
-abbrev pub asked : Bool → ℕ → List ℕ → Bool
-asked due n b = sparesZero n b && rightFrom due (rowIn n b)
+-- ---- where the records of a version stand
+pub next-start : (v : Version) (k : ℕ) → startIn v k + sizeIn v ≡ startIn v (k + 1)
+next-start One k = omega arith
+next-start Two k = omega arith
 
--- what is asked of the first
-abbrev pub first : Bool → List ℕ → Bool
-first due b = spareZero b && (inTurn due (recordIn b .kind) && isRight (recordIn b))
+pub within : (v : Version) (k n : ℕ) → k < n → startIn v k + sizeIn v ≤ startIn v n
+within One k n h = omega arith
+within Two k n h = omega arith
 
-in-pairs : (p q r s : Bool) → ((p && q) && (r && s)) ≡ ((p && r) && (q && s))
-in-pairs true true r s = refl
-in-pairs true false true s = refl
-in-pairs true false false s = refl
-in-pairs false q r s = refl
+pub whole-what : (v : Version) → programAt ≤ sizeIn v
+whole-what One = omega arith
+whole-what Two = omega arith
 
-asked-first : (due : Bool) (n : ℕ) (b : List ℕ) → asked due (suc n) b ≡ (first due b && asked (isArc (recordIn b .kind)) n (drop recordSize b))
-unfolding sparesZero rightFrom rowIn
-asked-first due n b =
-    in-pairs (spareZero b) (sparesZero n (drop recordSize b)) (inTurn due (recordIn b .kind) && isRight (recordIn b)) (rightFrom (isArc (recordIn b .kind)) (rowIn n (drop recordSize b)))
+-- ---- the records, one after the other, each of so many bytes
+module _ (size : ℕ) where
+  -- what is still to be asked of n records, at the front of some bytes
+  abbrev pub asked : Bool → ℕ → List ℕ → Bool
+  asked due n b = sparesZero size n b && rightFrom due (recordsEvery size n b)
 
-kind-at : (b : List ℕ) (i : ℕ) → recordIn (drop i b) .kind ≡ getD b i 0
-unfolding recordIn
-kind-at b i = getD-drop i b 0 0 ∙ ap (λ (m : ℕ). getD b m 0) (omega arith)
+  -- what is asked of the first
+  abbrev pub first : Bool → List ℕ → Bool
+  first due b = spareZero b && (inTurn due (recordIn b .kind) && isRight (recordIn b))
 
-module _ (b : List ℕ) (count : ℕ) where
-  -- what is still to be asked from record k on
-  abbrev pub askedFrom : Bool → ℕ → Bool
-  askedFrom due k = asked due (count - k) (drop (recordStart k) b)
+  asked-first : (due : Bool) (n : ℕ) (b : List ℕ) → asked due (suc n) b ≡ (first due b && asked (isArc (recordIn b .kind)) n (drop size b))
+  unfolding sparesZero rightFrom recordsEvery
+  asked-first due n b =
+      in-pairs (spareZero b) (sparesZero size n (drop size b)) (inTurn due (recordIn b .kind) && isRight (recordIn b)) (rightFrom (isArc (recordIn b .kind)) (recordsEvery size n (drop size b)))
+    where
+      in-pairs : (p q r s : Bool) → ((p && q) && (r && s)) ≡ ((p && r) && (q && s))
+      in-pairs true true r s = refl
+      in-pairs true false true s = refl
+      in-pairs true false false s = refl
+      in-pairs false q r s = refl
 
-  pub all-asked : asked false count (drop headerSize b) ≡ askedFrom false 0
-  all-asked = ap (λ (m : ℕ). asked false m (drop headerSize b)) (omega arith)
+  kind-at : (b : List ℕ) (i : ℕ) → recordIn (drop i b) .kind ≡ getD b i 0
+  unfolding recordIn
+  kind-at b i = getD-drop i b 0 0 ∙ ap (λ (m : ℕ). getD b m 0) (omega arith)
 
-  pub asked-next : (due : Bool) (k : ℕ) → k < count
-      → askedFrom due k ≡ (first due (drop (recordStart k) b) && askedFrom (isArc (recordAt b k .kind)) (k + 1))
-  asked-next due k h =
-      let n : ℕ = count - (k + 1) in
-      let e : count - k ≡ suc n = omega arith in
-      let p : recordStart k + recordSize ≡ recordStart (k + 1) = omega arith in
-      ap (λ (m : ℕ). asked due m (drop (recordStart k) b)) e
-      ∙ asked-first due n (drop (recordStart k) b)
-      ∙ ap (λ (l : List ℕ). first due (drop (recordStart k) b) && asked (isArc (recordAt b k .kind)) n l) (drop-drop recordSize (recordStart k) b ∙ ap (λ (m : ℕ). drop m b) p)
+  module _ (b : List ℕ) (count : ℕ) where
+    -- what is still to be asked from record k on, whose first byte stands at `at`
+    abbrev pub askedFrom : Bool → ℕ → ℕ → Bool
+    askedFrom due k at = asked due (count - k) (drop at b)
 
-  -- the first is wrong
-  pub first-wrong : (due : Bool) (k : ℕ) → k < count → first due (drop (recordStart k) b) ≡ false → askedFrom due k ≡ false
-  first-wrong due k h w = asked-next due k h ∙ ap (λ (q : Bool). q && askedFrom (isArc (recordAt b k .kind)) (k + 1)) w
+    pub all-asked : asked false count (drop headerSize b) ≡ askedFrom false 0 headerSize
+    all-asked = ap (λ (m : ℕ). asked false m (drop headerSize b)) (omega arith)
 
-  -- the first is right, and the others are left
-  pub first-right : (due : Bool) (k : ℕ) → k < count → first due (drop (recordStart k) b) ≡ true → (next : Bool) → next ≡ isArc (getD b (recordStart k) 0) → askedFrom due k ≡ askedFrom next (k + 1)
-  first-right due k h w next e =
-      asked-next due k h
-      ∙ ap (λ (q : Bool). q && askedFrom (isArc (recordAt b k .kind)) (k + 1)) w
-      ∙ ap (λ (q : Bool). askedFrom q (k + 1)) (ap isArc (kind-at b (recordStart k)) ∙ sym e)
+    module _ (due : Bool) (k at : ℕ) (h : k < count) where
+      asked-next : askedFrom due k at ≡ (first due (drop at b) && askedFrom (isArc (recordIn (drop at b) .kind)) (k + 1) (at + size))
+      asked-next =
+          let n : ℕ = count - (k + 1) in
+          let e : count - k ≡ suc n = omega arith in
+          ap (λ (m : ℕ). asked due m (drop at b)) e
+          ∙ asked-first due n (drop at b)
+          ∙ ap (λ (l : List ℕ). first due (drop at b) && asked (isArc (recordIn (drop at b) .kind)) n l) (drop-drop size at b)
 
-  -- none is left
-  pub none-left : (due : Bool) (k : ℕ) → count ≤ k → askedFrom due k ≡ not due
-  unfolding sparesZero rightFrom rowIn
-  none-left due k h =
-      let e : count - k ≡ 0 = omega arith in
-      ap (λ (m : ℕ). asked due m (drop (recordStart k) b)) e
+      -- the first is wrong
+      pub first-wrong : first due (drop at b) ≡ false → askedFrom due k at ≡ false
+      first-wrong w = asked-next ∙ ap (λ (q : Bool). q && askedFrom (isArc (recordIn (drop at b) .kind)) (k + 1) (at + size)) w
+
+      -- the first is right, and the others are left
+      pub first-right : first due (drop at b) ≡ true → (next : Bool) → next ≡ isArc (getD b at 0) → askedFrom due k at ≡ askedFrom next (k + 1) (at + size)
+      first-right w next e =
+          asked-next
+          ∙ ap (λ (q : Bool). q && askedFrom (isArc (recordIn (drop at b) .kind)) (k + 1) (at + size)) w
+          ∙ ap (λ (q : Bool). askedFrom q (k + 1) (at + size)) (ap isArc (kind-at b at) ∙ sym e)
+
+    -- none is left
+    pub none-left : (due : Bool) (k at : ℕ) → count ≤ k → askedFrom due k at ≡ not due
+    unfolding sparesZero rightFrom recordsEvery
+    none-left due k at h =
+        let e : count - k ≡ 0 = omega arith in
+        ap (λ (m : ℕ). asked due m (drop at b)) e
 
 -- ---- the list judged
 module _ (b : List ℕ) where
@@ -155,35 +171,42 @@ module _ (b : List ℕ) where
   unfolding judged
   refused-mark h = rw h refl
 
-  module _ (h : markWrong b ≡ false) where
-    version-is : {t : Bool} → versionWrong b ≡ t → judged b ≡ cond t (Refused badVersion) (cond (lengthWrong b) (Refused badLength) (cond (recordsWrong b) (Refused badRecord) (Good (countIn b))))
+  module _ (h : markWrong b ≡ false) (n : ℕ) (e : n ≡ versionIn b) where
+    pub is-first : n ≡ firstVersion → judgedAs One b ≡ judged b
     unfolding judged
-    version-is k = rw (h, k) refl
+    is-first k = rw (h, eq-eqb (versionIn b) firstVersion (sym e ∙ k)) refl
 
-    pub refused-version : (v : ℕ) → v ≡ versionIn b → (v ≡ version → ⊥) → Refused badVersion ≡ judged b
-    unfolding versionWrong
-    refused-version v e k = sym (version-is (ap not (ne-eqb (versionIn b) version (λ z. k (e ∙ z)))))
+    module _ (k : n ≡ firstVersion → ⊥) where
+      pub is-second : n ≡ version → judgedAs Two b ≡ judged b
+      unfolding judged
+      is-second l = rw (h, ne-eqb (versionIn b) firstVersion (λ z. k (e ∙ z)), eq-eqb (versionIn b) version (sym e ∙ l)) refl
 
-    module _ (v : ℕ) (e : v ≡ versionIn b) (k : v ≡ version) where
-      length-is : {t : Bool} → lengthWrong b ≡ t → judged b ≡ cond t (Refused badLength) (cond (recordsWrong b) (Refused badRecord) (Good (countIn b)))
-      unfolding versionWrong
-      length-is l =
-          version-is (ap not (eq-eqb (versionIn b) version (sym e ∙ k)))
-          ∙ ap (λ (t : Bool). cond t (Refused badLength) (cond (recordsWrong b) (Refused badRecord) (Good (countIn b)))) l
+      pub refused-version : (n ≡ version → ⊥) → Refused badVersion ≡ judged b
+      unfolding judged
+      refused-version l = rw (h, ne-eqb (versionIn b) firstVersion (λ z. k (e ∙ z)), ne-eqb (versionIn b) version (λ z. l (e ∙ z))) refl
 
-      pub refused-length : lengthWrong b ≡ true → Refused badLength ≡ judged b
-      refused-length l = sym (length-is l)
+  module _ (v : Version) where
+    pub refused-length : lengthWrong v b ≡ true → Refused badLength ≡ judgedAs v b
+    unfolding judgedAs
+    refused-length l = rw l refl
 
-      module _ (l : lengthWrong b ≡ false) (n : ℕ) (c : n ≡ countIn b) (t : Bool) (a : t ≡ asked false n (drop headerSize b)) where
-        records-are : judged b ≡ cond (not t) (Refused badRecord) (Good n)
-        unfolding recordsWrong listIn
-        records-are =
-            length-is l
-            ∙ ap (λ (q : Bool). cond q (Refused badRecord) (Good (countIn b))) (sym (ap not (a ∙ ap (λ (m : ℕ). asked false m (drop headerSize b)) c)))
-            ∙ ap (λ (m : ℕ). cond (not t) (Refused badRecord) (Good m)) (sym c)
+    module _ (l : lengthWrong v b ≡ false) (n : ℕ) (c : n ≡ countIn b) (t : Bool) (a : t ≡ asked (sizeIn v) false n (drop headerSize b)) where
+      records-are : judgedAs v b ≡ cond (not t) (Refused badRecord) (Good v n)
+      unfolding judgedAs recordsWrong
+      records-are =
+          ap (λ (q : Bool). cond q (Refused badLength) (cond (recordsWrong v b) (Refused badRecord) (Good v (countIn b)))) l
+          ∙ ap (λ (q : Bool). cond q (Refused badRecord) (Good v (countIn b))) (sym (ap not (a ∙ ap (λ (m : ℕ). asked (sizeIn v) false m (drop headerSize b)) c)))
+          ∙ ap (λ (m : ℕ). cond (not t) (Refused badRecord) (Good v m)) (sym c)
 
-        pub refused-record : t ≡ false → Refused badRecord ≡ judged b
-        refused-record f = sym (records-are ∙ ap (λ (q : Bool). cond (not q) (Refused badRecord) (Good n)) f)
+      pub refused-record : t ≡ false → Refused badRecord ≡ judgedAs v b
+      refused-record f = sym (records-are ∙ ap (λ (q : Bool). cond (not q) (Refused badRecord) (Good v n)) f)
 
-        pub all-good : t ≡ true → Good n ≡ judged b
-        all-good f = sym (records-are ∙ ap (λ (q : Bool). cond (not q) (Refused badRecord) (Good n)) f)
+      pub all-good : t ≡ true → Good v n ≡ judgedAs v b
+      all-good f = sym (records-are ∙ ap (λ (q : Bool). cond (not q) (Refused badRecord) (Good v n)) f)
+
+  -- the version that the header names
+  pub named-first : (n : ℕ) → n ≡ versionIn b → n ≡ firstVersion → One ≡ versionNamed b
+  named-first n e k = ap (λ (t : Bool). cond t One Two) (sym (eq-eqb (versionIn b) firstVersion (sym e ∙ k)))
+
+  pub named-second : (n : ℕ) → n ≡ versionIn b → (n ≡ firstVersion → ⊥) → Two ≡ versionNamed b
+  named-second n e k = ap (λ (t : Bool). cond t One Two) (sym (ne-eqb (versionIn b) firstVersion (λ z. k (e ∙ z))))

@@ -9,6 +9,7 @@ use lib.ListN.{length, getD, drop, set}
 use borrow.Author.Tests.{lt-ltb, le-ltb}
 use Rattle.moves.specs.declared.record.Record.{Record}
 use Rattle.readback.specs.Numbers.{numbersCount, numbersOf, tooFewNumbers, answerOf, numbersAfter}
+use Rattle.readback.specs.declared.read.Source.{Source}
 use Rattle.readback.specs.declared.read.ReadBack.{ReadBack}
 use Rattle.readback.specs.declared.read.ReadBack.the-variants.{Found, Refused}
 
@@ -45,17 +46,17 @@ module _ {back : ReadBack} (lent : List ℤ) where
   unfolding answerOf numbersAfter
   refused-so is = (sym (ap (λ (q : ReadBack). answerOf q (length lent)) is), sym (ap (λ (q : ReadBack). numbersAfter q lent) is))
 
-  module _ {r : Record} (is : back ≡ Found r) where
-    few-lent : length lent < numbersCount → Answered (Found r) lent tooFewNumbers lent
+  module _ {r : Record} {s : Source} (is : back ≡ Found r s) where
+    few-lent : length lent < numbersCount → Answered (Found r s) lent tooFewNumbers lent
     unfolding answerOf numbersAfter
     few-lent h = (rw (lt-ltb (length lent) numbersCount h) refl, rw (lt-ltb (length lent) numbersCount h) refl)
 
     pub too-few : length lent < numbersCount → Answered back lent tooFewNumbers lent
     too-few h = (few-lent h .0 ∙ sym (ap (λ (q : ReadBack). answerOf q (length lent)) is), few-lent h .1 ∙ sym (ap (λ (q : ReadBack). numbersAfter q lent) is))
 
-    all-lent : numbersCount ≤ length lent → Answered (Found r) lent 0 (numbersOf r ++ drop numbersCount lent)
+    all-lent : numbersCount ≤ length lent → Answered (Found r s) lent 0 (numbersOf r s ++ drop numbersCount lent)
     unfolding answerOf numbersAfter
     all-lent h = (rw (le-ltb (length lent) numbersCount h) refl, rw (le-ltb (length lent) numbersCount h) refl)
 
-    pub told : numbersCount ≤ length lent → {e : List ℤ} → e ≡ numbersOf r ++ drop numbersCount lent → Answered back lent 0 e
+    pub told : numbersCount ≤ length lent → {e : List ℤ} → e ≡ numbersOf r s ++ drop numbersCount lent → Answered back lent 0 e
     told h k = (all-lent h .0 ∙ sym (ap (λ (q : ReadBack). answerOf q (length lent)) is), k ∙ all-lent h .1 ∙ sym (ap (λ (q : ReadBack). numbersAfter q lent) is))

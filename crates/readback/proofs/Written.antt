@@ -15,10 +15,12 @@ use mir.Val.{SFits}
 use Rattle.whole.specs.Bytes.{littleEndian, valueOf, wordOf, signedBytes, signedOf}
 use Rattle.whole.proofs.Integers.{whole, sub-in, fits}
 use Rattle.whole.proofs.LittleEndian.{AllBytes, write-back}
-use Rattle.moves.specs.Form.{recordSize, recordBytes, rowBytes, Fitting, AllFitting}
-use Rattle.moves.specs.Reading.{numberAt, recordIn, rowIn}
-use Rattle.readback.specs.Lists.{spareZero, sparesZero}
-use Rattle.readback.specs.Laws.{Bytes}
+use Rattle.moves.specs.Form.{recordSize, programAt, blockAt, whatBytes, originBytes, recordBytes, rowBytes, whats, Fitting, FittingOrigin, AllFitting, AllListed}
+use Rattle.moves.specs.Reading.{numberAt, recordIn, originIn, listedIn, rowIn}
+use Rattle.moves.specs.declared.record.Record.{Record}
+use Rattle.readback.specs.Versions.{firstRecordSize}
+use Rattle.readback.specs.Lists.{recordsEvery, spareZero, sparesZero}
+use Rattle.readback.specs.Laws.{Bytes, firstRow}
 use Rattle.readback.proofs.Judges.{both-true}
 
 -- ---- the sign
@@ -96,8 +98,8 @@ module _ (b : List ℕ) (h : Bytes b) (at : ℕ) (reach : at + 4 ≤ length b) w
   unfolding signedBytes
   signed-back = ap (littleEndian 4) (word-back (numberAt b at 4) four-small) ∙ four-back
 
--- ---- a record
-module _ (b : List ℕ) (h : Bytes b) (long : recordSize ≤ length b) where
+-- ---- what is done by a record
+module _ (b : List ℕ) (h : Bytes b) (long : programAt ≤ length b) where
   pub record-fits : Fitting (recordIn b)
   unfolding recordIn
   record-fits = record {
@@ -108,9 +110,9 @@ module _ (b : List ℕ) (h : Bytes b) (long : recordSize ≤ length b) where
     value = four-small b h 12 (omega arith);
   }
 
-  pub record-back : spareZero b ≡ true → recordBytes (recordIn b) ≡ take recordSize b
-  unfolding recordBytes recordIn
-  record-back e =
+  pub what-back : spareZero b ≡ true → whatBytes (recordIn b) ≡ take programAt b
+  unfolding whatBytes recordIn
+  what-back e =
       let z = both-true (eqb (getD b 2 0) 0) (eqb (getD b 3 0) 0) e in
       let third : getD b 2 0 ≡ 0 = eqb-true (getD b 2 0) 0 (z .0) in
       let fourth : getD b 3 0 ≡ 0 = eqb-true (getD b 3 0) 0 (z .1) in
@@ -128,22 +130,84 @@ module _ (b : List ℕ) (h : Bytes b) (long : recordSize ≤ length b) where
       (front
       ∙ (λ i. getD b 0 0 ∷ getD b 1 0 ∷ third i ∷ fourth i ∷ (whole-rest ∙ sym fields) i))
 
--- ---- a row of records
+-- ---- where it came from
+module _ (b : List ℕ) (h : Bytes b) (at : ℕ) (reach : at + 2 ≤ length b) where
+  abbrev pair : List ℕ
+  pair = take 2 (drop at b)
+
+  pair-long : length pair ≡ 2
+  pair-long = length-take-le 2 (drop at b) (omega (arith, length-drop at b))
+
+  pair-bytes : AllBytes pair
+  pair-bytes = all-take 2 (drop at b) (all-bytes (drop at b) (bytes-drop at b h))
+
+  two-back : littleEndian 2 (numberAt b at 2) ≡ pair
+  two-back = ap (λ (n : ℕ). littleEndian n (valueOf pair)) (sym pair-long) ∙ write-back pair pair-bytes
+
+  two-small : numberAt b at 2 < 2 ^ 16
+  two-small = small pair pair-bytes pair-long
+    where
+      small : (l : List ℕ) → AllBytes l → length l ≡ 2 → valueOf l < 2 ^ 16
+      small [] h e = absurd (omega arith)
+      small (p ∷ []) h e = absurd (omega arith)
+      small (p ∷ (q ∷ [])) h e = omega (arith, h .0, h .1 .0)
+      small (p ∷ (q ∷ (r ∷ l))) h e = absurd (omega arith)
+
+module _ (b : List ℕ) (h : Bytes b) (long : recordSize ≤ length b) where
+  origin-fits : FittingOrigin (originIn b)
+  unfolding originIn
+  origin-fits = record { program = two-small b h programAt (omega arith); block = two-small b h blockAt (omega arith) }
+
+  record-back : spareZero b ≡ true → recordBytes (listedIn b) ≡ take recordSize b
+  unfolding recordBytes originBytes originIn
+  record-back e =
+      let tail : take 4 (drop 16 b) ≡ take 2 (drop 16 b) ++ take 2 (drop 18 b) = take-on 2 2 (drop 16 b) ∙ ap (λ (l : List ℕ). take 2 (drop 16 b) ++ take 2 l) (drop-drop 2 16 b) in
+      (λ i. what-back b h (omega arith) e i ++ (two-back b h 16 (omega arith) i ++ two-back b h 18 (omega arith) i))
+      ∙ sym (take-on 16 4 b ∙ ap (λ (l : List ℕ). take 16 b ++ l) tail)
+
+-- ---- a row of records, with the blocks that they came from
 pub row-length : (n : ℕ) (b : List ℕ) → length (rowIn n b) ≡ n
 unfolding rowIn
 row-length zero b = refl
 row-length (suc n) b = ap suc (row-length n (drop recordSize b))
 
-pub row-fits : (n : ℕ) (b : List ℕ) → Bytes b → length b ≡ recordSize * n → AllFitting (rowIn n b)
+pub row-fits : (n : ℕ) (b : List ℕ) → Bytes b → length b ≡ recordSize * n → AllListed (rowIn n b)
 unfolding rowIn
 row-fits zero b h e = tt
-row-fits (suc n) b h e = (record-fits b h (omega arith), row-fits n (drop recordSize b) (bytes-drop recordSize b h) (omega (arith, length-drop recordSize b)))
+row-fits (suc n) b h e =
+    ((record-fits b h (omega arith), origin-fits b h (omega arith)), row-fits n (drop recordSize b) (bytes-drop recordSize b h) (omega (arith, length-drop recordSize b)))
 
-pub row-back : (n : ℕ) (b : List ℕ) → Bytes b → length b ≡ recordSize * n → sparesZero n b ≡ true → rowBytes (rowIn n b) ≡ b
+pub row-back : (n : ℕ) (b : List ℕ) → Bytes b → length b ≡ recordSize * n → sparesZero recordSize n b ≡ true → rowBytes (rowIn n b) ≡ b
 unfolding rowBytes rowIn sparesZero
 row-back zero [] h e s = refl
 row-back zero (x ∷ b) h e s = absurd (omega arith)
 row-back (suc n) b h e s =
-    let t = both-true (spareZero b) (sparesZero n (drop recordSize b)) s in
+    let t = both-true (spareZero b) (sparesZero recordSize n (drop recordSize b)) s in
     (λ i. record-back b h (omega arith) (t .0) i ++ row-back n (drop recordSize b) (bytes-drop recordSize b h) (omega (arith, length-drop recordSize b)) (t .1) i)
     ∙ take-append-drop recordSize b
+
+-- what is done by them
+pub every-what : (n : ℕ) (b : List ℕ) → recordsEvery recordSize n b ≡ whats (rowIn n b)
+unfolding recordsEvery rowIn whats
+every-what zero b = refl
+every-what (suc n) b = ap (λ (rs : List Record). recordIn b ∷ rs) (every-what n (drop recordSize b))
+
+-- ---- and of version 1
+pub first-length : (n : ℕ) (b : List ℕ) → length (recordsEvery firstRecordSize n b) ≡ n
+unfolding recordsEvery
+first-length zero b = refl
+first-length (suc n) b = ap suc (first-length n (drop firstRecordSize b))
+
+pub first-fits : (n : ℕ) (b : List ℕ) → Bytes b → length b ≡ firstRecordSize * n → AllFitting (recordsEvery firstRecordSize n b)
+unfolding recordsEvery
+first-fits zero b h e = tt
+first-fits (suc n) b h e = (record-fits b h (omega arith), first-fits n (drop firstRecordSize b) (bytes-drop firstRecordSize b h) (omega (arith, length-drop firstRecordSize b)))
+
+pub first-back : (n : ℕ) (b : List ℕ) → Bytes b → length b ≡ firstRecordSize * n → sparesZero firstRecordSize n b ≡ true → firstRow (recordsEvery firstRecordSize n b) ≡ b
+unfolding firstRow recordsEvery sparesZero
+first-back zero [] h e s = refl
+first-back zero (x ∷ b) h e s = absurd (omega arith)
+first-back (suc n) b h e s =
+    let t = both-true (spareZero b) (sparesZero firstRecordSize n (drop firstRecordSize b)) s in
+    (λ i. what-back b h (omega arith) (t .0) i ++ first-back n (drop firstRecordSize b) (bytes-drop firstRecordSize b h) (omega (arith, length-drop firstRecordSize b)) (t .1) i)
+    ∙ take-append-drop firstRecordSize b

@@ -9,6 +9,8 @@ use Rattle.whole.specs.Signed.{minus}
 use Rattle.moves.specs.declared.record.Record.{Record}
 use Rattle.readback.specs.declared.judging.Judged.{Judged}
 use Rattle.readback.specs.declared.judging.Judged.the-variants as judging
+use Rattle.readback.specs.declared.read.Source.{Source}
+use Rattle.readback.specs.declared.read.Source.the-variants.{From, Untold}
 use Rattle.readback.specs.declared.read.ReadBack.{ReadBack}
 use Rattle.readback.specs.declared.read.ReadBack.the-variants.{Found, Refused}
 
@@ -19,9 +21,18 @@ numbersCount = 7
 abbrev pub none : ℤ
 none = minus 1
 
+-- the numbers of the program and of the block that a record came from
+abbrev pub programOf : Source → ℤ
+programOf (From o) = pos (o .program)
+programOf Untold = none
+
+abbrev pub blockOf : Source → ℤ
+blockOf (From o) = pos (o .block)
+blockOf Untold = none
+
 -- kind, flags, X, Z, value, program, block
-unfoldable pub numbersOf : Record → List ℤ
-numbersOf r = pos (r .kind) ∷ pos (r .flags) ∷ r .x ∷ r .z ∷ pos (r .value) ∷ none ∷ none ∷ []
+unfoldable pub numbersOf : Record → Source → List ℤ
+numbersOf r s = pos (r .kind) ∷ pos (r .flags) ∷ r .x ∷ r .z ∷ pos (r .value) ∷ programOf s ∷ blockOf s ∷ []
 
 -- fewer numbers are lent
 abbrev pub tooFewNumbers : ℕ
@@ -30,14 +41,14 @@ tooFewNumbers = 6
 -- the answer: 0, or the refusal; that too few numbers are lent is asked last
 unfoldable pub answerOf : ReadBack → ℕ → ℕ
 answerOf (Refused why) lent = why
-answerOf (Found r) lent = cond (ltb lent numbersCount) tooFewNumbers 0
+answerOf (Found r s) lent = cond (ltb lent numbersCount) tooFewNumbers 0
 
 -- the numbers after it: those of the record, and all others as they came; on a refusal all are as they came
 unfoldable pub numbersAfter : ReadBack → List ℤ → List ℤ
 numbersAfter (Refused why) lent = lent
-numbersAfter (Found r) lent = cond (ltb (length lent) numbersCount) lent (numbersOf r ++ drop numbersCount lent)
+numbersAfter (Found r s) lent = cond (ltb (length lent) numbersCount) lent (numbersOf r s ++ drop numbersCount lent)
 
 -- 0, or why a list is refused
 abbrev pub refusalOf : Judged → ℕ
-refusalOf (judging.Good count) = 0
+refusalOf (judging.Good v count) = 0
 refusalOf (judging.Refused why) = why

@@ -9,9 +9,11 @@ use lib.IntN.{ℤ, pos, _*ℤ_}
 use lib.ListN.{length}
 use lib.Signed.{leZ}
 use Rattle.whole.specs.Position.{tableLeast, tableGreatest, inTable}
-use Rattle.moves.specs.Form.{recordLimit, AllFitting}
+use Rattle.moves.specs.Form.{recordLimit, whats, AllFitting, AllListed}
 use Rattle.moves.specs.Kinds.{rapidKind, feedKind, speedKind, centreKind, isArc, isCentre, inTurn, flagG95, flagG96}
 use Rattle.moves.specs.declared.record.Record.{Record}
+use Rattle.moves.specs.declared.record.Listed.{Listed}
+use Rattle.readback.specs.Versions.{firstRecordLimit}
 
 -- ---- "known kinds"
 abbrev pub isKnown : ℕ → Bool
@@ -44,7 +46,13 @@ abbrev pub rightRow : List Record → Bool
 rightRow rs = rightFrom false rs
 
 -- the rows that a list may have: no more than the limit, each number fits its place, and the records are right in their row
-pub record Lawful (rs : List Record) : Type 0 where
-  pub few : length rs ≤ recordLimit
+pub record Lawful (ls : List Listed) : Type 0 where
+  pub few : length ls ≤ recordLimit
+  pub each : AllListed ls
+  pub right : rightRow (whats ls) ≡ true
+
+-- and one of version 1
+pub record FirstLawful (rs : List Record) : Type 0 where
+  pub few : length rs ≤ firstRecordLimit
   pub each : AllFitting rs
   pub right : rightRow rs ≡ true

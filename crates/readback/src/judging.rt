@@ -1,16 +1,18 @@
-// A list judged as a whole: how many records it has, or why it is refused. (02: "It accepts exactly lists in the written form".)
+// A list judged as a whole: its version and how many records it has, or why it is refused. (02: "It accepts exactly lists in the written form"; "the reader takes both".)
+use crate::versions::Version;
 ghost use mathlib.Core.Path.{_≡_};
 ghost use mathlib.Core.Bool.{_&&_};
-ghost use Prim.Native.Nat.{_+_, _<_, _≤_};
+ghost use Prim.Native.Nat.{_<_, _≤_};
 ghost use lib.ListN.{length, drop};
-ghost use Rattle.moves.specs.Form.{headerSize, recordSize, recordStart};
-ghost use Rattle.moves.specs.Reading.{numberAt, recordIn, rowIn, countIn};
+ghost use Rattle.moves.specs.Form.{headerSize, programAt};
+ghost use Rattle.moves.specs.Reading.{recordIn, countIn};
 ghost use Rattle.moves.specs.Kinds.{inTurn};
 ghost use Rattle.readback.specs.Right.{isRight, rightRow};
-ghost use Rattle.readback.specs.Lists.{markWrong, lengthWrong, spareZero, sparesZero, judged};
+ghost use Rattle.readback.specs.Versions.{sizeIn, startIn};
+ghost use Rattle.readback.specs.Lists.{markWrong, lengthWrong, recordsEvery, spareZero, sparesZero, judgedAs, judged, versionNamed};
 
 pub enum Judged {
-    Good(usize),
+    Good(Version, usize),
     Refused(u32),
 }
 
@@ -27,35 +29,31 @@ fn mark_wrong(list: &[u8]) -> bool
         | (list[moves::AT_MARK + 2] != mark[2])
 }
 
-fn wide(b: u8) -> usize
-    ensures { λ r. ⌜ (r ≡ b) × (r < 256) ⌝ }
+// The version that a header names: 1, or else 2. Of a list that was judged good it is one of the two.
+pub fn version_named(list: &[u8]) -> Version
+    requires { ⌜ headerSize ≤ length (now list) ⌝ }
+    ensures { λ r. ⌜ r ≡ versionNamed (now (list .entry)) ⌝ }
 {
-    b as usize
-}
-
-// The 16 bits from a place on.
-fn two_at(list: &[u8], at: usize) -> usize
-    requires { ⌜ at + 2 ≤ length (now list) ⌝ }
-    ensures { λ r. ⌜ r ≡ numberAt (now (list .entry)) at 2 ⌝ }
-{
-    wide(list[at]) + 256 * wide(list[at + 1])
+    if crate::record::two_at(list, moves::AT_VERSION) == crate::versions::FIRST_VERSION {
+        return Version::One;
+    }
+    Version::Two
 }
 
 // "length (or count above the limit or header's spare byte)", of a list that has a header and this count in it.
-fn length_wrong(list: &[u8], count: usize) -> bool
-    requires { ⌜ (headerSize ≤ length (now list)) × (count ≡ countIn (now list)) ⌝ }
-    ensures { λ r. ⌜ r ≡ lengthWrong (now (list .entry)) ⌝ }
+fn length_wrong(list: &[u8], v: Version, count: usize) -> bool
+    requires { ⌜ (headerSize ≤ length (now list)) × (count ≡ countIn (now list)) × (count < 65_536) ⌝ }
+    ensures { λ r. ⌜ r ≡ lengthWrong v (now (list .entry)) ⌝ }
 {
-    if count > moves::RECORD_LIMIT {
+    if count > crate::versions::record_limit(v) {
         return true;
     }
-    (list.len() != moves::HEADER_SIZE + moves::RECORD_SIZE * count)
-        | (list[moves::AT_HEADER_ZERO] != 0)
+    (list.len() != crate::versions::record_start(v, count)) | (list[moves::AT_HEADER_ZERO] != 0)
 }
 
-// Whether the record at the front of a part is right where it stands, its spare bytes too.
+// Whether the record at the front of a part is right where it stands, its spare bytes too. The block that it came from is not asked.
 fn front_right(due: bool, part: &[u8]) -> bool
-    requires { ⌜ recordSize ≤ length (now part) ⌝ }
+    requires { ⌜ programAt ≤ length (now part) ⌝ }
     ensures { λ r. ⌜ r ≡ (spareZero (now (part .entry)) && (inTurn due (recordIn (now (part .entry)) .kind) && isRight (recordIn (now (part .entry))))) ⌝ }
 {
     if (part[moves::AT_ZEROS] != 0) | (part[moves::AT_ZEROS + 1] != 0) {
@@ -65,21 +63,38 @@ fn front_right(due: bool, part: &[u8]) -> bool
 }
 
 // Whether so many records are right, one behind the other.
-fn row_right(list: &[u8], count: usize) -> bool
-    requires { ⌜ recordStart count ≤ length (now list) ⌝ }
-    ensures { λ r. ⌜ r ≡ (sparesZero count (drop headerSize (now (list .entry))) && rightRow (rowIn count (drop headerSize (now (list .entry))))) ⌝ }
+fn row_right(list: &[u8], v: Version, count: usize) -> bool
+    requires { ⌜ startIn v count ≤ length (now list) ⌝ }
+    ensures { λ r. ⌜ r ≡ (sparesZero (sizeIn v) count (drop headerSize (now (list .entry))) && rightRow (recordsEvery (sizeIn v) count (drop headerSize (now (list .entry))))) ⌝ }
 {
+    let size = crate::versions::record_size(v);
     let mut due = false;
+    let mut first = moves::HEADER_SIZE;
     let mut k = 0;
     while k < count {
-        let first = moves::HEADER_SIZE + moves::RECORD_SIZE * k;
         if !front_right(due, &list[first..]) {
             return false;
         }
         due = crate::right::is_arc(list[first + moves::AT_KIND]);
+        first += size;
         k += 1;
     }
     !due
+}
+
+// Judges the length and the records of a list whose header names a version.
+fn judge_as(list: &[u8], v: Version) -> Judged
+    requires { ⌜ headerSize ≤ length (now list) ⌝ }
+    ensures { λ r. ⌜ r ≡ judgedAs v (now (list .entry)) ⌝ }
+{
+    let count = crate::record::two_at(list, moves::AT_COUNT);
+    if length_wrong(list, v, count) {
+        return Judged::Refused(crate::BAD_LENGTH);
+    }
+    if !row_right(list, v, count) {
+        return Judged::Refused(crate::BAD_RECORD);
+    }
+    Judged::Good(v, count)
 }
 
 // Judges a list, in one pass over its records.
@@ -89,15 +104,12 @@ pub fn judge_list(list: &[u8]) -> Judged
     if mark_wrong(list) {
         return Judged::Refused(crate::BAD_MARK);
     }
-    if two_at(list, moves::AT_VERSION) != (moves::VERSION as usize) {
-        return Judged::Refused(crate::BAD_VERSION);
+    let version = crate::record::two_at(list, moves::AT_VERSION);
+    if version == crate::versions::FIRST_VERSION {
+        return judge_as(list, Version::One);
     }
-    let count = two_at(list, moves::AT_COUNT);
-    if length_wrong(list, count) {
-        return Judged::Refused(crate::BAD_LENGTH);
+    if version == (moves::VERSION as usize) {
+        return judge_as(list, Version::Two);
     }
-    if !row_right(list, count) {
-        return Judged::Refused(crate::BAD_RECORD);
-    }
-    Judged::Good(count)
+    Judged::Refused(crate::BAD_VERSION)
 }

@@ -1,6 +1,7 @@
 // A record as seven numbers, as a caller in C gets it: kind, flags, X, Z, value, program and block. A list of version 1 has no program and block, and both are -1.
 use crate::judging::Judged;
 use crate::read::ReadBack;
+use crate::read::Source;
 use moves::record::Record;
 ghost use mathlib.Core.Path.{_≡_};
 ghost use mathlib.Core.List.{_++_};
@@ -8,7 +9,7 @@ ghost use Prim.Native.Nat.{_≤_};
 ghost use lib.IntN.{pos};
 ghost use lib.ListN.{length, drop};
 ghost use Rattle.readback.specs.Lists.{judged, readOf, readJudged};
-ghost use Rattle.readback.specs.Numbers.{numbersCount, numbersOf, refusalOf, answerOf, numbersAfter};
+ghost use Rattle.readback.specs.Numbers.{programOf, blockOf, numbersCount, numbersOf, refusalOf, answerOf, numbersAfter};
 
 pub const COUNT: usize = 7;
 
@@ -30,15 +31,35 @@ fn of_i32(v: i32) -> i64
     v as i64
 }
 
-fn numbers_of(what: Record) -> [i64; COUNT]
-    ensures { λ r. ⌜ r ≡ numbersOf what ⌝ }
+fn program_of(source: Source) -> i64
+    ensures { λ r. ⌜ r ≡ programOf source ⌝ }
+{
+    match source {
+        Source::From(origin) => of_u32(origin.program as u32),
+        Source::Untold => NONE,
+    }
+}
+
+fn block_of(source: Source) -> i64
+    ensures { λ r. ⌜ r ≡ blockOf source ⌝ }
+{
+    match source {
+        Source::From(origin) => of_u32(origin.block as u32),
+        Source::Untold => NONE,
+    }
+}
+
+fn numbers_of(what: Record, source: Source) -> [i64; COUNT]
+    ensures { λ r. ⌜ r ≡ numbersOf what source ⌝ }
 {
     let kind = of_u32(what.kind as u32);
     let flags = of_u32(what.flags as u32);
     let x = of_i32(what.x);
     let z = of_i32(what.z);
     let value = of_u32(what.value);
-    [kind, flags, x, z, value, NONE, NONE]
+    let program = program_of(source);
+    let block = block_of(source);
+    [kind, flags, x, z, value, program, block]
 }
 
 fn put_numbers(numbers: &mut [i64], seven: [i64; COUNT])
@@ -61,11 +82,11 @@ fn answer(back: ReadBack, numbers: &mut [i64]) -> u32
 {
     match back {
         ReadBack::Refused(why) => why,
-        ReadBack::Found(what) => {
+        ReadBack::Found(what, source) => {
             if numbers.len() < COUNT {
                 return TOO_FEW_NUMBERS;
             }
-            put_numbers(numbers, numbers_of(what));
+            put_numbers(numbers, numbers_of(what, source));
             0
         }
     }
@@ -85,7 +106,7 @@ pub fn judge(list: &[u8]) -> u32
 {
     let found = crate::judging::judge_list(list);
     match found {
-        Judged::Good(_) => 0,
+        Judged::Good(_, _) => 0,
         Judged::Refused(why) => why,
     }
 }

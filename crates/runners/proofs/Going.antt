@@ -13,15 +13,16 @@ use types.Run.{OneOf}
 use Rattle.whole.specs.Bytes.{laid}
 use Rattle.whole.proofs.Laying.{laid-nil, length-laid}
 use Rattle.alarms.specs.Numbers.{tooDeep}
-use Rattle.moves.specs.Form.{headerSize, recordStart, rowBytes}
+use Rattle.moves.specs.Form.{headerSize, recordStart, rowBytes, stamped, whats}
 use Rattle.moves.specs.declared.record.Record.{Record}
-use Rattle.moves.proofs.OneReading.{length-row}
+use Rattle.moves.specs.declared.record.Listed.{Listed}
+use Rattle.moves.proofs.OneReading.{length-row, length-whats, whats-append, whats-stamped}
 use Rattle.moves.proofs.Rows.{row-on}
 use Rattle.tape.specs.Lines.{lineAt}
 use Rattle.settings.specs.declared.control.Settings.{Settings}
 use Rattle.moves.proofs.Room.{room-fits}
 use Rattle.ahead.specs.Ahead.{onto, FoundAt}
-use Rattle.steps.specs.Steps.{Task, taskOf, Step, Taken, takenFrom}
+use Rattle.steps.specs.Steps.{Task, taskOf, Step, listedBy, Taken, takenFrom}
 use Rattle.steps.specs.Meets.{Ready, Fit, Needs, Goes, Wrote, StepMeets}
 use Rattle.ahead.specs.declared.ProgramAt.{ProgramAt}
 use Rattle.ahead.specs.declared.Frame.{Frame}
@@ -32,13 +33,13 @@ use Rattle.steps.specs.declared.step.Run.{Run}
 use Rattle.runners.specs.declared.run.Ending.{Ending}
 use Rattle.runners.specs.declared.run.Ending.the-variants.{Returned, Ended, Stopped}
 use Rattle.runners.specs.declared.run.Outcome.{Outcome}
-use Rattle.runners.specs.Runs.{Ran, ran, recordsOf, pre, goBack, andThen, goOn, onward, blocks, blocksInAll, enough as spare, repeated, called, entry, programRun}
+use Rattle.runners.specs.Runs.{Ran, ran, recordsOf, listedOf, pre, goBack, andThen, goOn, onward, blocks, blocksInAll, enough as spare, repeated, called, entry, programRun}
 use Rattle.runners.specs.Meets.{Begins, Took, RanMeets}
 use Rattle.runners.proofs.run.Ending.{the-type}
 
 -- ---- written
 pub took-nil : (t : Task) (b : List ℕ) (r : Run) → Fit t r → Took t b r [] b r
-unfolding recordsOf rowBytes
+unfolding listedOf rowBytes
 took-nil t b r f = record { buffer = sym (laid-nil b (recordStart (r .count))); count = omega arith; fit = f; left = omega arith }
 
 pub records-append : (v w : List Step) → recordsOf (v ++ w) ≡ recordsOf v ++ recordsOf w
@@ -46,10 +47,24 @@ unfolding recordsOf
 records-append [] w = refl
 records-append (s ∷ v) w = ap (λ (l : List Record). s .records ++ l) (records-append v w) ∙ sym (append-assoc (s .records) (recordsOf v) (recordsOf w))
 
+pub listed-append : (v w : List Step) → listedOf (v ++ w) ≡ listedOf v ++ listedOf w
+unfolding listedOf
+listed-append [] w = refl
+listed-append (s ∷ v) w = ap (λ (l : List Listed). listedBy s ++ l) (listed-append v w) ∙ sym (append-assoc (listedBy s) (listedOf v) (listedOf w))
+
+-- what is done by the list is what the steps have done, and there is a record in it for each of theirs
+pub listed-whats : (v : List Step) → whats (listedOf v) ≡ recordsOf v
+unfolding listedOf recordsOf whats
+listed-whats [] = refl
+listed-whats (s ∷ v) = whats-append (listedBy s) (listedOf v) ∙ (λ i. whats-stamped (s .origin) (s .records) i ++ listed-whats v i)
+
+pub length-listed : (v : List Step) → length (listedOf v) ≡ length (recordsOf v)
+length-listed v = sym (length-whats (listedOf v)) ∙ ap length (listed-whats v)
+
 -- a step's records are those of the step
-pub took-one : (t : Task) {b e : List ℕ} {r s : Run} (st : Step) → Wrote t b r (st .records) e s → Took t b r (st ∷ []) e s
-unfolding recordsOf
-took-one t {b} {e} {r} {s} st w = subst (λ (l : List Record). Wrote t b r l e s) (sym (append-nil (st .records))) w
+pub took-one : (t : Task) {b e : List ℕ} {r s : Run} (st : Step) → Wrote t b r (listedBy st) e s → Took t b r (st ∷ []) e s
+unfolding listedOf
+took-one t {b} {e} {r} {s} st w = subst (λ (l : List Listed). Wrote t b r l e s) (sym (append-nil (listedBy st))) w
 
 -- ---- runs
 pub pre-nil : (x : Ran) → x ≡ pre [] x
@@ -112,19 +127,19 @@ module _ (tape : List ℕ) (table : List ℤ) (set : Settings) (first : ℕ) (b�
   fits : (b : List ℕ) → length b ≡ length b₀ → {r : Run} → Fit t r → recordStart (r .count) ≤ length b
   fits b same {r} f = omega (arith, same, room-fits (length b₀) (r .count) header (f .count))
 
-  pub wrote-length : {b e : List ℕ} → length b ≡ length b₀ → (v : List Record) {r s : Run} → Wrote t b r v e s → length e ≡ length b₀
+  pub wrote-length : {b e : List ℕ} → length b ≡ length b₀ → (v : List Listed) {r s : Run} → Wrote t b r v e s → length e ≡ length b₀
   wrote-length {b} {e} same v {r} {s} w =
       ap length (w .buffer) ∙ length-laid b (recordStart (r .count)) (rowBytes v) (omega (arith, fits b same (w .fit), w .count, length-row v)) ∙ same
 
   pub took-trans : (v w : List Step) {b m e : List ℕ} → length b ≡ length b₀ → {r q s : Run} → Took t b r v m q → Took t m q w e s → Took t b r (v ++ w) e s
   took-trans v w {b} {m} {e} same {r} {q} {s} p k =
-      let x = recordsOf v in
-      let y = recordsOf w in record {
+      let x = listedOf v in
+      let y = listedOf w in record {
         buffer = k .buffer
             ∙ ap (λ (l : List ℕ). laid l (recordStart (q .count)) (rowBytes y)) (p .buffer)
             ∙ row-on b (r .count) x y (q .count) (sym (p .count)) (fits b same (p .fit))
-            ∙ ap (λ (l : List Record). laid b (recordStart (r .count)) (rowBytes l)) (sym (records-append v w));
-        count = omega (arith, p .count, k .count, ap length (records-append v w) ∙ length-append x y);
+            ∙ ap (λ (l : List Listed). laid b (recordStart (r .count)) (rowBytes l)) (sym (listed-append v w));
+        count = omega (arith, p .count, k .count, ap length (listed-append v w) ∙ length-append x y);
         fit = k .fit;
         left = omega (arith, p .left, k .left);
       }
@@ -178,7 +193,7 @@ module _ (tape : List ℕ) (table : List ℤ) (set : Settings) (first : ℕ) (b�
       same = h ∙ pre-pre w v (rest (suc f) to s);
       took = took-trans w v refl p q;
       enough = omega arith;
-      size = wrote-length l (recordsOf v) q;
+      size = wrote-length l (listedOf v) q;
       here = here;
     }
 
@@ -197,7 +212,7 @@ module _ (tape : List ℕ) (table : List ℤ) (set : Settings) (first : ℕ) (b�
       took = took-one t here (m .wrote)
 
       pub size-after : length e ≡ length b₀
-      size-after = wrote-length (g .size) (here .records) (m .wrote)
+      size-after = wrote-length (g .size) (listedBy here) (m .wrote)
 
       -- what is left, by its next step, which asks w of the runner
       unrolled : {w : Onward} → d .onward ≡ w → programRun t program calls r₀ ≡ pre (g .done) (goOn (called t calls) (rest (g .fuel)) w (d .run) (d .after) here)
@@ -240,8 +255,8 @@ module _ (tape : List ℕ) (table : List ℤ) (set : Settings) (first : ℕ) (b�
 
       -- a refused block has written nothing
       pub stops : (alarm place : ℕ) → d .onward ≡ Stop alarm place → RanMeets t (programRun t program calls r₀) b₀ r₀ (record { ending = Stopped alarm place; run = d .run }) e
-      unfolding goOn recordsOf
-      stops alarm place p = ends [] p refl (subst (λ (l : List Record). Wrote t b r l e (d .run)) (goes p) (m .wrote))
+      unfolding goOn listedOf stamped
+      stops alarm place p = ends [] p refl (subst (λ (l : List Record). Wrote t b r (stamped (here .origin) l) e (d .run)) (goes p) (m .wrote))
 
       -- a call
       module _ (p : ProgramAt) (times : ℕ) (h : d .onward ≡ Call p times) where
@@ -271,7 +286,7 @@ module _ (tape : List ℕ) (table : List ℤ) (set : Settings) (first : ℕ) (b�
           so-far = took-trans (g .done) (here ∷ []) refl (g .took) took
 
           pub call-size : length u ≡ length b₀
-          call-size = wrote-length size-after (recordsOf (run .steps)) (q .took)
+          call-size = wrote-length size-after (listedOf (run .steps)) (q .took)
 
           pub call-left : o .run .«blocks_left» < r .«blocks_left»
           call-left = omega (arith, less-call, q .took .left)
@@ -332,7 +347,7 @@ module _ (tape : List ℕ) (table : List ℤ) (set : Settings) (first : ℕ) (b�
         once k = g .same ∙ ap (pre (g .done)) (repeated-some n r some ∙ then-is (body r) (repeated body (n - 1)) (back .outcome) k)
 
         pub size-once : length u ≡ length b₀
-        size-once = wrote-length (g .size) (recordsOf (body r .steps)) (back .took)
+        size-once = wrote-length (g .size) (listedOf (body r .steps)) (back .took)
 
         pub again : o .ending ≡ Returned → Repeating t program calls times b₀ r₀ u (o .run) (n - 1)
         unfolding goBack

@@ -8,7 +8,7 @@ use Rattle.steps.specs.Steps.{Task, Step}
 use Rattle.steps.specs.Meets.{Ready, Fit, Wrote}
 use Rattle.steps.specs.declared.step.Run.{Run}
 use Rattle.runners.specs.declared.run.Outcome.{Outcome}
-use Rattle.runners.specs.Runs.{blocksInAll, Ran, recordsOf, called, programRun}
+use Rattle.runners.specs.Runs.{blocksInAll, Ran, listedOf, called, programRun}
 
 -- what a program asks for that is begun: it is on the tape, and no more blocks are left than a run may begin
 pub record Begins (t : Task) (bytes : ℕ) (places : List ℕ) (count : ℕ) (program : ProgramAt) (r : Run) : Type 0 where
@@ -19,7 +19,7 @@ pub record Begins (t : Task) (bytes : ℕ) (places : List ℕ) (count : ℕ) (pr
 
 -- from the run r and the buffer b to the run s and the buffer e some steps were taken
 abbrev pub Took : Task → List ℕ → Run → List Step → List ℕ → Run → Type 0
-Took t b r v e s = Wrote t b r (recordsOf v) e s
+Took t b r v e s = Wrote t b r (listedOf v) e s
 
 pub record RanMeets (t : Task) (x : Ran) (b : List ℕ) (r : Run) (o : Outcome) (e : List ℕ) : Type 0 where
   pub outcome : o ≡ x .outcome

@@ -4,9 +4,10 @@ use mathlib.Core.List.{List, [], _∷_, _++_}
 use Prim.Native.Nat.{ℕ, zero, suc}
 use Rattle.alarms.specs.Numbers.{tooDeep, tooManyBegun}
 use Rattle.moves.specs.declared.record.Record.{Record}
+use Rattle.moves.specs.declared.record.Listed.{Listed}
 use Rattle.tape.specs.Lines.{lineAt}
 use Rattle.ahead.specs.Ahead.{onto}
-use Rattle.steps.specs.Steps.{Task, Step, Taken, takenFrom}
+use Rattle.steps.specs.Steps.{Task, Step, listedBy, Taken, takenFrom}
 use Rattle.ahead.specs.declared.ProgramAt.{ProgramAt}
 use Rattle.ahead.specs.declared.Frame.{Frame}
 use Rattle.ahead.specs.declared.Onward.{Onward}
@@ -28,6 +29,11 @@ ran e r l = record { outcome = record { ending = e; run = r }; steps = l }
 unfoldable pub recordsOf : List Step → List Record
 recordsOf [] = []
 recordsOf (st ∷ sts) = st .records ++ recordsOf sts
+
+-- and as they stand in the list, each with the block of its step
+unfoldable pub listedOf : List Step → List Listed
+listedOf [] = []
+listedOf (st ∷ sts) = listedBy st ++ listedOf sts
 
 -- some steps, and then a run
 unfoldable pub pre : List Step → Ran → Ran

@@ -13,8 +13,11 @@ use Rattle.whole.specs.Bytes.{laid}
 use Rattle.whole.proofs.Laying.{laid-nil}
 use Rattle.alarms.specs.Numbers.{tooManyBegun, wrongEnd}
 use Rattle.alarms.proofs.Above.{alarm-above}
-use Rattle.moves.specs.Form.{recordStart, rowBytes}
+use Rattle.moves.specs.Form.{recordStart, rowBytes, stamped, rowFrom}
 use Rattle.moves.specs.declared.record.Record.{Record}
+use Rattle.moves.specs.declared.record.Origin.{Origin}
+use Rattle.moves.proofs.OneReading.{length-stamped}
+use Rattle.moves.proofs.Rows.{from-none}
 use Rattle.tape.specs.Lines.{gapOf, textAt, lineAt, lines}
 use Rattle.addresses.specs.Words.{nextWord, wordsFrom}
 use Rattle.block.specs.Words.{longestLine, noWords, gather, lineOf, startOf}
@@ -49,8 +52,8 @@ use Rattle.ahead.specs.declared.Onward.the-variants.{On, Call, Jump, Return, En
 use Rattle.steps.specs.declared.step.Run.{Run}
 use Rattle.steps.specs.declared.step.StepDone.{StepDone}
 use Rattle.ahead.specs.Ahead.{onto, lookedBy, lookedUp, lookedUpIn, FoundAt}
-use Rattle.steps.specs.Steps.{Task, blockIn, blockOn, onwardBy, onwardOf, alarmBy, alarmAt, runAfter, doneAt, recordsAt, passedBy, Taken, takenBy, takenFrom}
-use Rattle.steps.specs.Meets.{onwardIn, Fit, Needs, Starts, Stands, Goes, Wrote, StepMeets, BlockMeets}
+use Rattle.steps.specs.Steps.{Task, blockIn, blockOn, onwardBy, onwardOf, alarmBy, alarmAt, runAfter, doneAt, recordsAt, passedBy, originAt, listedBy, Taken, takenBy, takenFrom}
+use Rattle.steps.specs.Meets.{onwardIn, originBy, Fit, Needs, Starts, Stands, Goes, Wrote, StepMeets, BlockMeets}
 use Rattle.finding.specs.Finds.{Finds}
 use Rattle.ahead.proofs.Places.{OnwardOn, looked-on, CallFound, looked-found, looked-same}
 
@@ -145,6 +148,10 @@ module _ (t : Task) (b : List ℕ) (f : Frame) (r : Run) {places : List ℕ} {co
   abbrev words : Block
   words = blockOn (t .tape) (f .at)
 
+  -- where its records come from
+  abbrev from : Origin
+  from = originAt (t .tape) f
+
   abbrev own : ℕ
   own = alarmIn (t .table) (t .settings) (r .state) words (t .room - r .count)
 
@@ -163,12 +170,11 @@ module _ (t : Task) (b : List ℕ) (f : Frame) (r : Run) {places : List ℕ} {co
 
     refused : {after : ℕ} → after ≡ lineAt (t .tape) (f .at) .after → after ≤ length (t .tape) → {l : List ℕ} → l ≡ b
         → BlockMeets t b f r (record { onward = Stop a (f .at); run = r; after = after }) l
-    unfolding rowBytes
     refused e h {l} same = record {
       done = done-refused e;
       wrote = record {
-        buffer = same ∙ sym (laid-nil b (recordStart (r .count))) ∙ ap (λ (v : List Record). laid b (recordStart (r .count)) (rowBytes v)) (sym no-records);
-        count = omega (arith, ap length no-records);
+        buffer = same ∙ sym (ap (laid b (recordStart (r .count))) (from-none from) ∙ laid-nil b (recordStart (r .count))) ∙ ap (λ (v : List Record). laid b (recordStart (r .count)) (rowFrom from v)) (sym no-records);
+        count = omega (arith, length-stamped from (recordsAt t f r), ap length no-records);
         fit = n .fit;
         left = omega arith;
       };
@@ -192,16 +198,16 @@ module _ (t : Task) (b : List ℕ) (f : Frame) (r : Run) {places : List ℕ} {co
 
     -- by its own alarm
     pub refused-block : {a : ℕ} → outcomeOf (t .table) (t .settings) (r .state) words (t .room) (r .count) ≡ Refused a
-        → {l : List ℕ} → l ≡ laid b (recordStart (r .count)) (rowBytes (blockRecords (t .table) (t .settings) (r .state) words (t .room - r .count)))
+        → {l : List ℕ} → l ≡ laid b (recordStart (r .count)) (rowFrom from (blockRecords (t .table) (t .settings) (r .state) words (t .room - r .count)))
         → {after : ℕ} → after ≡ lineAt (t .tape) (f .at) .after → after ≤ length (t .tape)
         → BlockMeets t b f r (record { onward = Stop a (f .at); run = r; after = after }) l
     refused-block {a} is laid-is h k =
         let w = was-refused (t .table) (t .settings) (r .state) words (t .room) (r .count) is in
         refused (own-is ∙ sym (w .is)) (λ e. w .some (sym (w .is) ∙ e)) h k
-        (laid-is ∙ sym (nothing-written (t .table) (t .settings) (r .state) words (t .room) (r .count) (w .some) b))
+        (laid-is ∙ sym (nothing-written (t .table) (t .settings) (r .state) words (t .room) (r .count) (w .some) from b))
 
     module _ {d : BlockDone} (is : outcomeOf (t .table) (t .settings) (r .state) words (t .room) (r .count) ≡ Done d) {l : List ℕ}
-        (laid-is : l ≡ laid b (recordStart (r .count)) (rowBytes (blockRecords (t .table) (t .settings) (r .state) words (t .room - r .count)))) where
+        (laid-is : l ≡ laid b (recordStart (r .count)) (rowFrom from (blockRecords (t .table) (t .settings) (r .state) words (t .room - r .count)))) where
       was : WasDone (t .table) (t .settings) (r .state) words (t .room) (r .count) d
       was = was-done (t .table) (t .settings) (r .state) words (t .room) (r .count) is
 
@@ -244,8 +250,8 @@ module _ (t : Task) (b : List ℕ) (f : Frame) (r : Run) {places : List ℕ} {co
           record {
             done = done-is same-onward run h;
             wrote = record {
-              buffer = laid-is ∙ ap (λ (x : List Record). laid b (recordStart (r .count)) (rowBytes x)) (done-recorded (t .table) (t .settings) (r .state) words (t .room - r .count) (was .well) ∙ sym records-done);
-              count = ap (λ (x : Run). x .count) run ∙ counted;
+              buffer = laid-is ∙ ap (λ (x : List Record). laid b (recordStart (r .count)) (rowFrom from x)) (done-recorded (t .table) (t .settings) (r .state) words (t .room - r .count) (was .well) ∙ sym records-done);
+              count = ap (λ (x : Run). x .count) run ∙ counted ∙ ap (λ (n : ℕ). r .count + n) (sym (length-stamped from (recordsAt t f r)));
               fit = subst (Fit t) (sym run) fit-after;
               left = omega (arith, less);
             };
@@ -268,10 +274,15 @@ module _ (tape : List ℕ) (f : Frame) {l : BlockAt} (s : Stands tape f l) where
 
   pub behind-number : Starts (take (l .stop - f .at) (drop (f .at) tape)) (l .behind)
   behind-number = record {
-    head = BlockLine (s .known .number);
+    head = BlockLine (l .number);
     is = ap (λ (x : BlockAt). startOf (take (x .stop - f .at) (drop (f .at) tape))) (s .is) ∙ sym (ap (λ (x : BlockAt). startOf (textAt tape (x .at) .bytes)) (s .is)) ∙ s .known .starts;
     within = omega (arith, same-place, s .known .begins, s .known .text, length-take (l .stop - f .at) (drop (f .at) tape), length-drop (f .at) tape);
   }
+
+  -- where its records come from, by the line as it was found
+  pub same-origin : originBy f l ≡ originAt tape f
+  unfolding originAt
+  same-origin = ap (λ (x : BlockAt). originBy f x) (s .is)
 
   -- where nothing stands behind the number there are no words
   pub wordless : l .stop ≤ l .at + l .behind → blockOn tape (f .at) ≡ noWords
@@ -282,12 +293,12 @@ module _ (tape : List ℕ) (f : Frame) {l : BlockAt} (s : Stands tape f l) where
 -- ---- a block without words is passed
 pub passed : (t : Task) (b : List ℕ) (f : Frame) (r : Run) {places : List ℕ} {count : ℕ} → Needs t (length b) places count f r → blockOn (t .tape) (f .at) ≡ noWords → 0 < r .«blocks_left»
     → {after : ℕ} → after ≡ lineAt (t .tape) (f .at) .after → after ≤ length (t .tape) → BlockMeets t b f r (passedBy r after) b
-unfolding rowBytes
 passed t b f r n e some h k =
+    let from = originAt (t .tape) f in
     let on : onwardOf t f r ≡ On = onward-none (t .tape) (t .settings) (t .first) f (r .«blocks_left») (blockOn (t .tape) (f .at)) e some in
     let is = ap (λ (x : Block). outcomeOf (t .table) (t .settings) (r .state) x (t .room) (r .count)) e ∙ wordless-done (t .table) (t .settings) (r .state) (n .fit .sound) (t .room) (r .count) in
     let none = ap (λ (x : Block). blockRecords (t .table) (t .settings) (r .state) x (t .room - r .count)) e ∙ wordless-records (t .table) (t .settings) (r .state) (n .fit .sound) (t .room - r .count) in
-    went t b f r n (ap alarmBy on ∙ quiet-on) is (sym (laid-nil b (recordStart (r .count))) ∙ ap (λ (v : List Record). laid b (recordStart (r .count)) (rowBytes v)) (sym none)) h k (sym on) refl
+    went t b f r n (ap alarmBy on ∙ quiet-on) is (sym (ap (laid b (recordStart (r .count))) (from-none from) ∙ laid-nil b (recordStart (r .count))) ∙ ap (λ (v : List Record). laid b (recordStart (r .count)) (rowFrom from v)) (sym none)) h k (sym on) refl
 
 -- ---- a step: the next block that was found, or the program's end
 abbrev IsAt : NextBlock → Type 0
@@ -324,18 +335,18 @@ module _ (t : Task) (b : List ℕ) (f : Frame) (r : Run) {places : List ℕ} {co
   unfolding takenFrom
   taken-is e = ap (takenBy t f r) e
 
-  step-meets : {x : Taken} → takenFrom t f r ≡ x → {d : StepDone} {e : List ℕ} → d ≡ x .done → Wrote t b r (x .step .records) e (d .run)
+  step-meets : {x : Taken} → takenFrom t f r ≡ x → {d : StepDone} {e : List ℕ} → d ≡ x .done → Wrote t b r (listedBy (x .step)) e (d .run)
       → Goes t r (d .run) (x .step .records) (d .onward) → d .after ≤ length (t .tape) → StepMeets t b f r d e
   step-meets is {d} {e} a w g k =
       let same = ap (λ (y : Taken). y .step .records) (sym is) in record {
         done = a ∙ ap (λ (y : Taken). y .done) (sym is);
-        wrote = subst (λ (v : List Record). Wrote t b r v e (d .run)) same w;
+        wrote = subst (λ (y : Taken). Wrote t b r (listedBy (y .step)) e (d .run)) (sym is) w;
         goes = subst (λ (v : List Record). Goes t r (d .run) v (d .onward)) same g;
         after = k;
       }
 
   pub step-ended : firstBlock (lines (t .tape) (f .at)) ≡ Nowhere → StepMeets t b f r (record { onward = Stop wrongEnd (f .program .line); run = r; after = f .at }) b
-  unfolding takenBy rowBytes
+  unfolding takenBy rowBytes stamped
   step-ended e =
       step-meets (taken-is e) refl (record { buffer = sym (laid-nil b (recordStart (r .count))); count = omega arith; fit = n .fit; left = omega arith }) refl (n .here)
 

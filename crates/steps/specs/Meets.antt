@@ -7,8 +7,10 @@ use lib.Dec.{eqb}
 use lib.ListN.{length, take}
 use Rattle.whole.specs.Bytes.{laid}
 use Rattle.alarms.specs.Numbers.{tooManyBegun}
-use Rattle.moves.specs.Form.{headerSize, recordStart, rowBytes}
+use Rattle.moves.specs.Form.{headerSize, recordStart, rowBytes, stamped}
 use Rattle.moves.specs.declared.record.Record.{Record}
+use Rattle.moves.specs.declared.record.Origin.{Origin}
+use Rattle.moves.specs.declared.record.Listed.{Listed}
 use Rattle.settings.specs.Known.{Table, InRange}
 use Rattle.settings.specs.declared.control.Settings.{Settings}
 use Rattle.block.specs.Words.{startOf}
@@ -26,11 +28,15 @@ use Rattle.ahead.specs.declared.Onward.{Onward}
 use Rattle.ahead.specs.declared.Onward.the-variants.{On, Call, Jump, Return, End, Stop}
 use Rattle.steps.specs.declared.step.Run.{Run}
 use Rattle.steps.specs.declared.step.StepDone.{StepDone}
-use Rattle.steps.specs.Steps.{Task, doneAt, recordsAt, takenFrom}
+use Rattle.steps.specs.Steps.{Task, doneAt, recordsAt, originAt, listedBy, takenFrom}
 
 -- what a block asks of the runner, as the code looks it up: by the row of the table of places
 unfoldable pub onwardIn : List ℕ → Settings → Frame → ℕ → Block → Onward
 onwardIn row set f left b = cond (eqb left 0) (Stop tooManyBegun (f .at)) (lookedUpIn row set f (requestOf b))
+
+-- where the records of a block come from, as the code has it: by the line that was found
+abbrev pub originBy : Frame → BlockAt → Origin
+originBy f l = record { program = f .program .number; block = l .number }
 
 -- ---- before it
 -- alarms 1 and 3 were judged before, and what is looked up in the first entries of the table of places is what the walk finds
@@ -74,8 +80,8 @@ Goes t r s v Return = Unit {0}
 Goes t r s v End = Unit {0}
 Goes t r s v (Stop alarm place) = v ≡ []
 
--- from the run r and the buffer b to the run s and the buffer e the records v were written
-pub record Wrote (t : Task) (b : List ℕ) (r : Run) (v : List Record) (e : List ℕ) (s : Run) : Type 0 where
+-- from the run r and the buffer b to the run s and the buffer e the records v were written, each with the block that it came from
+pub record Wrote (t : Task) (b : List ℕ) (r : Run) (v : List Listed) (e : List ℕ) (s : Run) : Type 0 where
   pub buffer : e ≡ laid b (recordStart (r .count)) (rowBytes v)
   pub count : s .count ≡ r .count + length v
   pub fit : Fit t s
@@ -84,13 +90,13 @@ pub record Wrote (t : Task) (b : List ℕ) (r : Run) (v : List Record) (e : List
 -- a step that came to d, in the buffer e
 pub record StepMeets (t : Task) (b : List ℕ) (f : Frame) (r : Run) (d : StepDone) (e : List ℕ) : Type 0 where
   pub done : d ≡ takenFrom t f r .done
-  pub wrote : Wrote t b r (takenFrom t f r .step .records) e (d .run)
+  pub wrote : Wrote t b r (listedBy (takenFrom t f r .step)) e (d .run)
   pub goes : Goes t r (d .run) (takenFrom t f r .step .records) (d .onward)
   pub after : d .after ≤ length (t .tape)
 
 -- and so for the block at the frame's place
 pub record BlockMeets (t : Task) (b : List ℕ) (f : Frame) (r : Run) (d : StepDone) (e : List ℕ) : Type 0 where
   pub done : d ≡ doneAt t f r
-  pub wrote : Wrote t b r (recordsAt t f r) e (d .run)
+  pub wrote : Wrote t b r (stamped (originAt (t .tape) f) (recordsAt t f r)) e (d .run)
   pub goes : Goes t r (d .run) (recordsAt t f r) (d .onward)
   pub after : d .after ≤ length (t .tape)

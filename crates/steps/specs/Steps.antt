@@ -7,14 +7,16 @@ use lib.Dec.{ltb, eqb}
 use lib.IntN.{ℤ}
 use lib.ListN.{length}
 use Rattle.alarms.specs.Numbers.{tooManyBegun, wrongEnd}
-use Rattle.moves.specs.Form.{roomOf}
+use Rattle.moves.specs.Form.{roomOf, stamped}
 use Rattle.moves.specs.declared.record.Record.{Record}
+use Rattle.moves.specs.declared.record.Origin.{Origin}
+use Rattle.moves.specs.declared.record.Listed.{Listed}
 use Rattle.tape.specs.Lines.{textAt, lines}
 use Rattle.block.specs.Words.{longestLine, noWords, lineOf}
 use Rattle.state.specs.Request.{requestOf}
 use Rattle.block.specs.declared.words.Block.{Block}
 use Rattle.settings.specs.declared.control.Settings.{Settings}
-use Rattle.finding.specs.Finding.{firstBlock}
+use Rattle.finding.specs.Finding.{firstBlock, blockNumberAt}
 use Rattle.places.specs.declared.Found.{Found}
 use Rattle.places.specs.declared.Found.the-variants.{At, Nowhere}
 use Rattle.verdicts.specs.Verdicts.{alarmIn}
@@ -93,11 +95,21 @@ recordsAt t f r = cond (eqb (alarmAt t f r) 0) (doneRecords (t .table) (t .setti
 abbrev pub passedBy : Run → ℕ → StepDone
 passedBy r after = record { onward = On; run = record { state = r .state; «blocks_left» = r .«blocks_left» - 1; count = r .count }; after = after }
 
--- ---- A STEP of a run: a block, by its place on the tape, the run in which it was begun, and the records that it wrote
+-- ---- where the records of a block came from. 02, request 7: "Each record ends with the 16-bit program number and block number it came from .. For a move inside a subprogram it is the
+-- subprogram's block": the number of the frame's program, and that of the block line at its place
+unfoldable pub originAt : List ℕ → Frame → Origin
+originAt tape f = record { program = f .program .number; block = blockNumberAt tape (f .at) }
+
+-- ---- A STEP of a run: a block, by its place on the tape, where its records came from, the run in which it was begun, and the records that it wrote
 pub record Step : Type 0 where
   pub place : ℕ
+  pub origin : Origin
   pub before : Run
   pub records : List Record
+
+-- its records as they stand in the list
+abbrev pub listedBy : Step → List Listed
+listedBy st = stamped (st .origin) (st .records)
 
 -- what comes of a step, and the step
 pub record Taken : Type 0 where
@@ -106,9 +118,9 @@ pub record Taken : Type 0 where
 
 -- the step from the frame's place on: the next block of the program, or 14 at the program's line where it ends before
 unfoldable pub takenBy : Task → Frame → Run → Found → Taken
-takenBy t f r (At p) = record { done = doneAt t (onto f p) r; step = record { place = p; before = r; records = recordsAt t (onto f p) r } }
+takenBy t f r (At p) = record { done = doneAt t (onto f p) r; step = record { place = p; origin = originAt (t .tape) (onto f p); before = r; records = recordsAt t (onto f p) r } }
 takenBy t f r Nowhere =
-    record { done = record { onward = Stop wrongEnd (f .program .line); run = r; after = f .at }; step = record { place = f .program .line; before = r; records = [] } }
+    record { done = record { onward = Stop wrongEnd (f .program .line); run = r; after = f .at }; step = record { place = f .program .line; origin = originAt (t .tape) (onto f (f .program .line)); before = r; records = [] } }
 
 unfoldable pub takenFrom : Task → Frame → Run → Taken
 takenFrom t f r = takenBy t f r (firstBlock (lines (t .tape) (f .at)))

@@ -5,6 +5,7 @@ use block::words::Block;
 use finding::BlockAt;
 use finding::NextBlock;
 use machine::BlockOutcome;
+use moves::record::Origin;
 use settings::control::Settings;
 use state::modal::State;
 ghost use mathlib.Core.Path.{_≡_};
@@ -12,7 +13,7 @@ ghost use Prim.Native.Nat.{_≤_, _<_};
 ghost use lib.ListN.{length, take};
 ghost use Rattle.places.specs.Places.{Row};
 ghost use Rattle.steps.specs.Steps.{taskOf, blockIn, alarmBy, passedBy};
-ghost use Rattle.steps.specs.Meets.{onwardIn, Needs, Starts, Stands, StepMeets, BlockMeets};
+ghost use Rattle.steps.specs.Meets.{onwardIn, originBy, Needs, Starts, Stands, StepMeets, BlockMeets};
 
 // A run between two blocks: the machine's state, how many blocks may still be begun, and how many records are written.
 pub struct Run {
@@ -73,6 +74,18 @@ fn onward_of(
     ahead::look_up(places, count, set, frame, next)
 }
 
+// Where the records of a block come from: the number of the frame's program, and that of the block's line. Both have four digits.
+fn origin_of(frame: Frame, line: BlockAt) -> Origin
+    requires { ⌜ (frame .program .number < 10_000) × (line .number < 10_000) ⌝ }
+    ensures { λ r. ⌜ r ≡ originBy frame line ⌝ }
+{
+    let program = frame.program;
+    Origin {
+        program: program.number as u16,
+        block: line.number as u16,
+    }
+}
+
 // Does the block of a line that was found, which is the one at the frame's place.
 fn do_block(
     tape: &[u8],
@@ -104,7 +117,8 @@ fn do_block(
         };
     }
     let before = run.state;
-    let outcome = machine::run_block(table, set, before, b, buf, run.count);
+    let origin = origin_of(frame, line);
+    let outcome = machine::run_block(table, set, before, b, buf, run.count, origin);
     match outcome {
         BlockOutcome::Refused(alarm) => StepDone {
             onward: Onward::Stop(alarm, at),

@@ -2,6 +2,7 @@
 // What a block asks of the runner is not done: the next line is run, so that a trial shows what each block does by itself.
 use block::words::Head;
 use machine::BlockOutcome;
+use moves::record::Origin;
 use state::modal::State;
 use state::request::Request;
 ghost use mathlib.Core.Path.{_≡_};
@@ -48,6 +49,14 @@ fn is_block(head: Head) -> bool {
     }
 }
 
+// A trial is no program: its records name none, and no block.
+fn nowhere() -> Origin {
+    Origin {
+        program: 0,
+        block: 0,
+    }
+}
+
 // Runs the block of a line, after what the block before it did.
 fn run_line(line: &[u8], table: &[i32], before: Tried, buf: &mut [u8]) -> Came
     requires { ⌜ Table (now table) × (headerSize ≤ length (now buf)) × Carried (roomOf (length (now buf))) before ⌝ }
@@ -65,7 +74,7 @@ fn run_line(line: &[u8], table: &[i32], before: Tried, buf: &mut [u8]) -> Came
     }
     let state = before.state;
     let set = settings::usual::of_listmoves();
-    let outcome = machine::run_block(table, set, state, b, buf, before.count);
+    let outcome = machine::run_block(table, set, state, b, buf, before.count, nowhere());
     match outcome {
         BlockOutcome::Refused(alarm) => Came::Ran(Tried {
             alarm,

@@ -8,9 +8,10 @@ use native.Mathlib.Omega.{arith}
 use lib.ListN.{length}
 use Rattle.whole.specs.Bytes.{laid}
 use Rattle.whole.proofs.Laying.{laid-nil}
-use Rattle.moves.specs.Form.{recordSize, recordStart, recordBytes, rowBytes}
+use Rattle.moves.specs.Form.{recordSize, recordStart, recordBytes, listed, rowFrom}
 use Rattle.moves.specs.declared.record.Record.{Record}
-use Rattle.moves.proofs.Rows.{row-one}
+use Rattle.moves.specs.declared.record.Origin.{Origin}
+use Rattle.moves.proofs.Rows.{from-none, from-one}
 use Rattle.block.specs.declared.words.Block.{Block}
 use Rattle.cycles.specs.Cycle as cycle
 use Rattle.cycles.specs.Known as known
@@ -29,30 +30,29 @@ pub doing-by : {d e : Deed} → d ≡ e → doing e ≡ doing d
 doing-by e = ap doing (sym e)
 
 -- ---- what is written of a deed e that was matched on, from record k on
-module _ {d e : Deed} (is : d ≡ e) (k : ℕ) where
+module _ (o : Origin) {d e : Deed} (is : d ≡ e) (k : ℕ) where
   -- nothing
-  pub none-written : (b : List ℕ) → doing e ≡ [] → b ≡ laid b (recordStart k) (rowBytes (doing d))
-  unfolding rowBytes
-  none-written b h = sym (laid-nil b (recordStart k)) ∙ ap (λ (v : List Record). laid b (recordStart k) (rowBytes v)) (sym h ∙ doing-by is)
+  pub none-written : (b : List ℕ) → doing e ≡ [] → b ≡ laid b (recordStart k) (rowFrom o (doing d))
+  none-written b h = sym (ap (laid b (recordStart k)) (from-none o) ∙ laid-nil b (recordStart k)) ∙ ap (λ (v : List Record). laid b (recordStart k) (rowFrom o v)) (sym h ∙ doing-by is)
 
   -- one record, and there is room for it
   pub one-room : {r : Record} (n : ℕ) → doing e ≡ r ∷ [] → recordStart (k + length (doing d)) ≤ n → recordStart k + recordSize ≤ n
   one-room n h l = omega (arith, l, ap length (doing-by is), ap length h)
 
-  pub one-written : {q r : Record} (b : List ℕ) {l : List ℕ} → l ≡ laid b (recordStart k) (recordBytes q) → q ≡ r → doing e ≡ r ∷ []
-      → l ≡ laid b (recordStart k) (rowBytes (doing d))
+  pub one-written : {q r : Record} (b : List ℕ) {l : List ℕ} → l ≡ laid b (recordStart k) (recordBytes (listed o q)) → q ≡ r → doing e ≡ r ∷ []
+      → l ≡ laid b (recordStart k) (rowFrom o (doing d))
   one-written {r = r} b h g w =
       h
-      ∙ ap (λ (q : Record). laid b (recordStart k) (recordBytes q)) g
-      ∙ ap (laid b (recordStart k)) (row-one r)
-      ∙ ap (λ (v : List Record). laid b (recordStart k) (rowBytes v)) (sym w ∙ doing-by is)
+      ∙ ap (λ (q : Record). laid b (recordStart k) (recordBytes (listed o q))) g
+      ∙ ap (laid b (recordStart k)) (from-one o r)
+      ∙ ap (λ (v : List Record). laid b (recordStart k) (rowFrom o v)) (sym w ∙ doing-by is)
 
   -- a row of records
   pub row-room : (v : List Record) (n : ℕ) → doing e ≡ v → recordStart (k + length (doing d)) ≤ n → recordStart (k + length v) ≤ n
   row-room v n h l = omega (arith, l, ap length (doing-by is), ap length h)
 
-  pub row-written : (v : List Record) (b : List ℕ) {l : List ℕ} → l ≡ laid b (recordStart k) (rowBytes v) → doing e ≡ v → l ≡ laid b (recordStart k) (rowBytes (doing d))
-  row-written v b h w = h ∙ ap (λ (v : List Record). laid b (recordStart k) (rowBytes v)) (sym w ∙ doing-by is)
+  pub row-written : (v : List Record) (b : List ℕ) {l : List ℕ} → l ≡ laid b (recordStart k) (rowFrom o v) → doing e ≡ v → l ≡ laid b (recordStart k) (rowFrom o (doing d))
+  row-written v b h w = h ∙ ap (λ (v : List Record). laid b (recordStart k) (rowFrom o v)) (sym w ∙ doing-by is)
 
 -- what is asked for where a cycle is written
 pub cycle-room : {d : Deed} {c : cycles.Cycle} (k n : ℕ) → d ≡ Cycle c → Right d → Known d → recordStart (k + length (doing d)) ≤ n

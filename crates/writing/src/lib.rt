@@ -3,13 +3,14 @@
 use block::words::Block;
 use deeds::deed::Deed;
 use deeds::deed::Round;
+use moves::record::Origin;
 use moves::record::Record;
 use state::modal::State;
 ghost use mathlib.Core.Path.{_≡_};
 ghost use Prim.Native.Nat.{_+_, _<_, _≤_};
 ghost use lib.ListN.{length};
 ghost use Rattle.whole.specs.Bytes.{laid};
-ghost use Rattle.moves.specs.Form.{recordStart, rowBytes};
+ghost use Rattle.moves.specs.Form.{recordStart, rowFrom};
 ghost use Rattle.arcs.specs.Arcs.{arcRecords};
 ghost use Rattle.block.specs.Slots.{slots};
 ghost use Rattle.asking.specs.Judge.{doing};
@@ -24,12 +25,12 @@ const COOLANT: usize = block::words::COOLANT;
 const FLOW: usize = block::words::FLOW;
 
 // Writes a record as number k where it is wanted, and answers the number of the next.
-fn put_if(buf: &mut [u8], k: usize, wanted: bool, what: Record) -> usize
+fn put_if(buf: &mut [u8], k: usize, wanted: bool, what: Record, origin: Origin) -> usize
     requires { ⌜ recordStart (k + length (oneIf wanted what)) ≤ length (now buf) ⌝ }
-    ensures { λ r. ⌜ (r ≡ k + length (oneIf wanted what)) × (now (buf .exit) ≡ laid (now (buf .entry)) (recordStart k) (rowBytes (oneIf wanted what))) ⌝ }
+    ensures { λ r. ⌜ (r ≡ k + length (oneIf wanted what)) × (now (buf .exit) ≡ laid (now (buf .entry)) (recordStart k) (rowFrom origin (oneIf wanted what))) ⌝ }
 {
     if wanted {
-        moves::list::write_record(buf, k, what);
+        moves::list::write_record(buf, k, what, origin);
         return k + 1;
     }
     k
@@ -59,54 +60,60 @@ fn m_of(s: State, b: Block, k: usize) -> Record
 }
 
 // Writes the speed and the tool, from number k on, and answers the number of the next record.
-fn put_speed_and_tool(buf: &mut [u8], k: usize, s: State, b: Block) -> usize
+fn put_speed_and_tool(buf: &mut [u8], k: usize, s: State, b: Block, origin: Origin) -> usize
     requires { ⌜ recordStart (k + length (speedAndTool s b)) ≤ length (now buf) ⌝ }
-    ensures { λ r. ⌜ (r ≡ k + length (speedAndTool s b)) × (now (buf .exit) ≡ laid (now (buf .entry)) (recordStart k) (rowBytes (speedAndTool s b))) ⌝ }
+    ensures { λ r. ⌜ (r ≡ k + length (speedAndTool s b)) × (now (buf .exit) ≡ laid (now (buf .entry)) (recordStart k) (rowFrom origin (speedAndTool s b))) ⌝ }
 {
     let speed = speed_of(s, b);
     let tool = tool_of(s, b);
-    let second = put_if(buf, k, block::words::has(b, block::words::S), speed);
-    put_if(buf, second, block::words::has(b, block::words::T), tool)
+    let second = put_if(buf, k, block::words::has(b, block::words::S), speed, origin);
+    put_if(
+        buf,
+        second,
+        block::words::has(b, block::words::T),
+        tool,
+        origin,
+    )
 }
 
 // Writes the M words of groups 0 and 3, from number k on, and answers the number of the next record.
-fn put_spindle_and_coolant(buf: &mut [u8], k: usize, s: State, b: Block) -> usize
+fn put_spindle_and_coolant(buf: &mut [u8], k: usize, s: State, b: Block, origin: Origin) -> usize
     requires { ⌜ recordStart (k + length (spindleAndCoolant s b)) ≤ length (now buf) ⌝ }
-    ensures { λ r. ⌜ (r ≡ k + length (spindleAndCoolant s b)) × (now (buf .exit) ≡ laid (now (buf .entry)) (recordStart k) (rowBytes (spindleAndCoolant s b))) ⌝ }
+    ensures { λ r. ⌜ (r ≡ k + length (spindleAndCoolant s b)) × (now (buf .exit) ≡ laid (now (buf .entry)) (recordStart k) (rowFrom origin (spindleAndCoolant s b))) ⌝ }
 {
     let spindle = m_of(s, b, SPINDLE);
     let coolant = m_of(s, b, COOLANT);
-    let second = put_if(buf, k, block::words::has(b, SPINDLE), spindle);
-    put_if(buf, second, block::words::has(b, COOLANT), coolant)
+    let second = put_if(buf, k, block::words::has(b, SPINDLE), spindle, origin);
+    put_if(buf, second, block::words::has(b, COOLANT), coolant, origin)
 }
 
 // Writes the two records of an arc, from number k on. (02: "kinds 8 and 9 are as kind 2 with the end point, and a following record, kind 10, carries the centre".)
-fn put_round(buf: &mut [u8], k: usize, r: Round)
+fn put_round(buf: &mut [u8], k: usize, r: Round, origin: Origin)
     requires { ⌜ recordStart (k + length (arcRecords (r .arc) (r .f) (r .g95))) ≤ length (now buf) ⌝ }
-    ensures { λ _. ⌜ now (buf .exit) ≡ laid (now (buf .entry)) (recordStart k) (rowBytes (arcRecords (r .arc) (r .f) (r .g95))) ⌝ }
+    ensures { λ _. ⌜ now (buf .exit) ≡ laid (now (buf .entry)) (recordStart k) (rowFrom origin (arcRecords (r .arc) (r .f) (r .g95))) ⌝ }
 {
     let arc = r.arc;
     let goes = arcs::arc::end_record(arc, r.f, r.g95);
     let around = arcs::arc::centre_record(arc);
-    let second = put_if(buf, k, true, goes);
-    put_if(buf, second, true, around);
+    let second = put_if(buf, k, true, goes, origin);
+    put_if(buf, second, true, around, origin);
 }
 
 // Writes the records of a deed, from number k on.
-fn put_deed(buf: &mut [u8], k: usize, d: Deed)
+fn put_deed(buf: &mut [u8], k: usize, d: Deed, origin: Origin)
     requires { ⌜ Right d × Known d × (recordStart (k + length (doing d)) ≤ length (now buf)) ⌝ }
-    ensures { λ _. ⌜ now (buf .exit) ≡ laid (now (buf .entry)) (recordStart k) (rowBytes (doing d)) ⌝ }
+    ensures { λ _. ⌜ now (buf .exit) ≡ laid (now (buf .entry)) (recordStart k) (rowFrom origin (doing d)) ⌝ }
 {
     match d {
         Deed::Nothing => {}
         Deed::Nowhere => {}
-        Deed::Dwell(r) => moves::list::write_record(buf, k, r),
+        Deed::Dwell(r) => moves::list::write_record(buf, k, r, origin),
         Deed::Straight(m) => {
             let goes = m.goes;
-            moves::list::write_record(buf, k, goes);
+            moves::list::write_record(buf, k, goes, origin);
         }
-        Deed::Round(r) => put_round(buf, k, r),
-        Deed::Cycle(c) => cycles::put_cycle(buf, k, c),
+        Deed::Round(r) => put_round(buf, k, r, origin),
+        Deed::Cycle(c) => cycles::put_cycle(buf, k, c, origin),
     }
 }
 
@@ -177,16 +184,24 @@ pub fn other_count(b: Block) -> u32
     speed + tool + (spindle + coolant) + stop
 }
 
-// Writes the records of a block, of which `count` are its deed's, from number k on, and answers the number of the next record.
-pub fn put_writes(buf: &mut [u8], k: usize, s: State, b: Block, d: Deed, count: usize) -> usize
+// Writes the records of a block, of which `count` are its deed's, from number k on, each with the program and the block that it came from, and answers the number of the next record.
+pub fn put_writes(
+    buf: &mut [u8],
+    k: usize,
+    s: State,
+    b: Block,
+    d: Deed,
+    count: usize,
+    origin: Origin,
+) -> usize
     requires { ⌜ Right d × Known d × (count ≡ length (doing d)) × (recordStart (k + length (writes s b d)) ≤ length (now buf)) ⌝ }
-    ensures { λ r. ⌜ (r ≡ k + length (writes s b d)) × (now (buf .exit) ≡ laid (now (buf .entry)) (recordStart k) (rowBytes (writes s b d))) ⌝ }
+    ensures { λ r. ⌜ (r ≡ k + length (writes s b d)) × (now (buf .exit) ≡ laid (now (buf .entry)) (recordStart k) (rowFrom origin (writes s b d))) ⌝ }
 {
-    let second = put_speed_and_tool(buf, k, s, b);
-    let third = put_spindle_and_coolant(buf, second, s, b);
-    put_deed(buf, third, d);
+    let second = put_speed_and_tool(buf, k, s, b, origin);
+    let third = put_spindle_and_coolant(buf, second, s, b, origin);
+    put_deed(buf, third, d, origin);
     let last = third + count;
     let after = done_of(s, d);
     let stop = m_of(after, b, FLOW);
-    put_if(buf, last, stops(b), stop)
+    put_if(buf, last, stops(b), stop, origin)
 }

@@ -6,7 +6,7 @@ use lib.ListN.{length}
 use borrow.Author.Needs.{needs}
 use Rattle.whole.specs.Bytes.{laid}
 use Rattle.moves.specs.declared.record.Record.{Record}
-use Rattle.moves.specs.Form.{recordStart, rowBytes}
+use Rattle.moves.specs.Form.{recordStart, rowFrom}
 use Rattle.cycles.proofs.put_cycle.Statement.{statement}
 use Rattle.cycles.proofs.put_cycle.Tie as tie
 
@@ -21,7 +21,7 @@ returns c =
     let r = c .before .before in
     let o = r .before .before in
     let s = o .before .before in
-    r .put-rest .ensures ∙ ap (λ (l : List Record). laid (s .args .buf .now) (recordStart (s .args .k)) (rowBytes l)) (o .«open» .ensures .0)
+    r .put-rest .ensures ∙ ap (λ (l : List Record). laid (s .args .buf .now) (recordStart (s .args .k)) (rowFrom (s .args .origin) l)) (o .«open» .ensures .0)
 
 pub put-cycle-spec : {M : Type 1} → statement M
 put-cycle-spec =

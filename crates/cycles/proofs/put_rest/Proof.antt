@@ -6,7 +6,7 @@ use Prim.Native.Nat.{_+_, _≤_}
 use native.Mathlib.Omega.{arith}
 use lib.ListN.{length}
 use Rattle.whole.proofs.Laying.{lent}
-use Rattle.moves.specs.Form.{recordSize, recordBytes}
+use Rattle.moves.specs.Form.{recordSize, recordBytes, listed}
 use Rattle.cycles.specs.Cursor.{restOf, Sound}
 use Rattle.cycles.proofs.Cursors.{rest-none}
 use Rattle.cycles.proofs.Writing.{Written, none-written, one-written, all-written, written-room, written-length, rest-less}
@@ -14,10 +14,10 @@ use Rattle.cycles.proofs.put_rest.Statement.{statement}
 use Rattle.cycles.proofs.put_rest.Tie as tie
 
 abbrev Inv-loop : tie.InvT-loop
-Inv-loop buf₀ first now₀ at₀ buf now at = Sound now × Written buf₀ first now₀ buf now at
+Inv-loop buf₀ first origin now₀ at₀ buf now at = Sound now × Written origin buf₀ first now₀ buf now at
 
 abbrev μ-loop : tie.MeasureT-loop
-μ-loop buf₀ first now₀ at₀ buf now at = length (restOf now)
+μ-loop buf₀ first origin now₀ at₀ buf now at = length (restOf now)
 
 was-false : (b : Bool) → not b ≡ true → b ≡ false
 was-false true e = sym e
@@ -34,7 +34,7 @@ has-room n =
     written-room (l .before .before .pre .1) (l .loop .inv .1) (n .next .result .«record») (n .next .result .rest) (n .next .ensures .first)
 
 loop-holds : tie.Need-loop-holds Inv-loop μ-loop
-loop-holds c = (c .before .pre .0, none-written _ _ _)
+loop-holds c = (c .before .pre .0, none-written _ _ _ _)
 
 next-requires : tie.Need-next-requires Inv-loop μ-loop
 next-requires c κs = (c .before .before .loop .inv .0, sym (c .before .is-over .ensures) ∙ was-false _ (c .if1 .taken))
@@ -71,7 +71,7 @@ loop-again c =
     let r = n .next .result .«record» in (
       n .next .ensures .sound,
       one-written (l .before .before .pre .1) (l .loop .inv .1) r (n .next .result .rest) (n .next .ensures .first)
-          (lent (l .loop .buf) (l .loop .at) (recordBytes r) (p .put-record .last .0) (p .put-record .ensures)),
+          (lent (l .loop .buf) (l .loop .at) (recordBytes (listed (l .before .before .args .origin) r)) (p .put-record .last .0) (p .put-record .ensures)),
     )
 
 same-length : tie.Need-same-length Inv-loop μ-loop

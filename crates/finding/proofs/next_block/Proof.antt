@@ -102,7 +102,8 @@ returns c =
 returns-2 : tie.Need-returns-2 Inv-loop μ-loop
 unfolding foundBy
 returns-2 c =
-    let h = c .before .before in
+    let t = c .before in
+    let h = t .before .before in
     let x = h .before .before in
     let k = x .before .before in
     let l = k .before .before in
@@ -110,8 +111,8 @@ returns-2 c =
     let s = a .tape .now in
     let p = l .before .before .loop .p in
     let starts = k .start-of .ensures in (
-      found-is s p (omega arith) (l .line-at .ensures .0) (starts .0) (x .start .given .1) ∙ ap (nextBlock s) (sym (by-here h (c .enum-told3 .given .1))),
-      found-in s p (omega arith) (l .line-at .ensures .0) (starts .0) (x .start .given .1) (sym (h .any-here .ensures) ∙ c .enum-told3 .given .1)
+      found-is s p (omega arith) (l .line-at .ensures .0) (starts .0) (x .start .given .1) (c .number-of .ensures) ∙ ap (nextBlock s) (sym (by-here h (t .enum-told3 .given .1))),
+      found-in s p (omega arith) (l .line-at .ensures .0) (starts .0) (x .start .given .1) (c .number-of .ensures) (sym (h .any-here .ensures) ∙ t .enum-told3 .given .1)
           (subst (λ (y : LineStart). StartIn y (length (take (l .line-at .result .stop - p) (drop p s)))) (x .start .given .1) (starts .1)) (l .line-at .ensures .1),
     )
 
@@ -143,6 +144,7 @@ next-block-spec =
     (λ c. search needs)
     (λ c κs. search needs)
     (λ c. search needs)
+    (λ c κs. search needs)
     (λ c. search needs)
     (λ c. search needs)
     loop-less-3

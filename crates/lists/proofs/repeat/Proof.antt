@@ -5,10 +5,10 @@ use Rattle.lists.proofs.repeat.Statement.{statement}
 use Rattle.lists.proofs.repeat.Tie as tie
 
 abbrev Inv-loop : tie.InvT-loop
-Inv-loop list₀ from count end n₀ list n = n ≤ 65_536
+Inv-loop list₀ from count end size n₀ list n = n ≤ 65_536
 
 abbrev μ-loop : tie.MeasureT-loop
-μ-loop list₀ from count end n₀ list n = end - n
+μ-loop list₀ from count end size n₀ list n = end - n
 
 pub repeat-spec : {M : Type 1} → statement M
 repeat-spec =
@@ -23,8 +23,9 @@ repeat-spec =
     (λ c κs. search needs)
     (λ c. search needs)
     (λ c. search needs)
-    (λ c. search needs)
-    (λ c. search needs)
+    (λ c κs. search needs)
+    (λ c κs. search needs)
+    (λ c κs. search needs)
     (λ c. search needs)
     (λ c. search needs)
     (λ c. search needs)

@@ -7,7 +7,7 @@ use lib.ListN.{length}
 use denote.Ref.{now}
 use borrow.Author.Needs.{needs}
 use Rattle.whole.specs.Bytes.{laid}
-use Rattle.moves.specs.Form.{recordStart, roomOf, rowBytes}
+use Rattle.moves.specs.Form.{recordStart, roomOf, rowFrom}
 use Rattle.moves.specs.declared.record.Record.{Record}
 use Rattle.moves.proofs.Room.{room-few, room-fits}
 use Rattle.asking.specs.Judge.{doing}
@@ -58,7 +58,7 @@ returns c =
     let a = j .before .before .before .args in
     let room = roomOf (length (now (a .buf))) in
     let w = was-refused (now (a .table)) (a .set) (a .s) (a .b) (room - a .k) (m .verdict .given .0 .0) (sym (verdict-is j) ∙ m .verdict .given .1) in
-    (refused (now (a .table)) (a .set) (a .s) (a .b) room (a .k) (w .some) (w .is), nothing-written (now (a .table)) (a .set) (a .s) (a .b) room (a .k) (w .some) (now (a .buf)))
+    (refused (now (a .table)) (a .set) (a .s) (a .b) room (a .k) (w .some) (w .is), nothing-written (now (a .table)) (a .set) (a .s) (a .b) room (a .k) (w .some) (a .origin) (now (a .buf)))
 
 returns-2 : tie.Need-returns-2
 returns-2 c =
@@ -72,7 +72,7 @@ returns-2 c =
       went-well (now (a .table)) (a .set) (a .s) (a .b) room (a .k) (w .well) (c .done-of .ensures ∙ going-state (now (a .table)) (a .set) (a .s) (a .b) (w .is))
           (p .put-writes .ensures .0 ∙ ap (λ (v : List Record). a .k + length v) same),
       p .put-writes .ensures .1
-          ∙ ap (λ (v : List Record). laid (now (a .buf)) (recordStart (a .k)) (rowBytes v)) (same ∙ sym (done-recorded (now (a .table)) (a .set) (a .s) (a .b) (room - a .k) (w .well))),
+          ∙ ap (λ (v : List Record). laid (now (a .buf)) (recordStart (a .k)) (rowFrom (a .origin) v)) (same ∙ sym (done-recorded (now (a .table)) (a .set) (a .s) (a .b) (room - a .k) (w .well))),
     )
 
 pub run-block-spec : {M : Type 1} → statement M

@@ -14,19 +14,19 @@ use Rattle.trying.proofs.run_line.Tie as tie
 
 run-block-requires : tie.Need-run-block-requires
 run-block-requires c κs =
-    let l = c .before .before .before .before .before .before .before .before in
+    let l = c .before .before .before .before .before .before .before .before .before in
     let s = l .before .before .before .before in
     let w = subst (λ (q : ReadLine). Worded (q .block)) (sym (l .read-line .ensures)) (worded (now (s .args .line))) in
-    (s .pre .0, subst InRange (sym (c .before .of-listmoves .ensures)) range-right, s .pre .2 .state, w, s .pre .1, s .pre .2 .count)
+    (s .pre .0, subst InRange (sym (c .before .before .of-listmoves .ensures)) range-right, s .pre .2 .state, w, s .pre .1, s .pre .2 .count)
 
 returns-3 : tie.Need-returns-3
-returns-3 c = let s = c .before .before .before .before .before .before .before .before .before .before .before .before .before .before .before .before .before .before in record { state = s .pre .2 .state; count = s .pre .2 .count }
+returns-3 c = let s = c .before .before .before .before .before .before .before .before .before .before .before .before .before .before .before .before .before .before .before in record { state = s .pre .2 .state; count = s .pre .2 .count }
 
 returns-4 : tie.Need-returns-4
 returns-4 c =
     let m = c .before .before .before in
     let r = m .before .before .before .before in
-    let o = r .before .before in
+    let o = r .before .before .before in
     let s = o .before .before .before .before .before .before .before .before .before .before .before in
     let a = s .args in
     let d = carried (now (a .table)) (o .of-listmoves .result) (a .before .state) _ (roomOf (length (now (a .buf)))) (a .before .count) (o .of-listmoves .ensures) (s .pre .2 .state) (s .pre .2 .count)
@@ -42,6 +42,7 @@ run-line-spec =
     (λ c κs. search needs)
     (λ c κs. search needs)
     (λ c. search needs)
+    (λ c κs. search needs)
     (λ c κs. search needs)
     run-block-requires
     (λ c. search needs)

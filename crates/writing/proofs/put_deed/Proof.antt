@@ -15,21 +15,21 @@ unfolding doing
 write-record-requires c κs =
     let m = c .before .before in
     let a = m .before .before .before in
-    one-room (m .d .given .1) (a .args .k) (length (now (a .args .buf))) refl (a .pre .2)
+    one-room (a .args .origin) (m .d .given .1) (a .args .k) (length (now (a .args .buf))) refl (a .pre .2)
 
 write-record-requires-2 : tie.Need-write-record-requires-2
 unfolding doing
 write-record-requires-2 c κs =
     let m = c .before .before .before in
     let a = m .before .before .before in
-    one-room (m .d2 .given .1) (a .args .k) (length (now (a .args .buf))) refl (a .pre .2)
+    one-room (a .args .origin) (m .d2 .given .1) (a .args .k) (length (now (a .args .buf))) refl (a .pre .2)
 
 put-round-requires : tie.Need-put-round-requires
 unfolding doing
 put-round-requires c κs =
     let m = c .before .before in
     let a = m .before .before .before in
-    row-room (m .d3 .given .1) (a .args .k) (let r = m .d3 .given .0 .0 in arcRecords (r .arc) (r .f) (r .g95)) (length (now (a .args .buf))) refl (a .pre .2)
+    row-room (a .args .origin) (m .d3 .given .1) (a .args .k) (let r = m .d3 .given .0 .0 in arcRecords (r .arc) (r .f) (r .g95)) (length (now (a .args .buf))) refl (a .pre .2)
 
 put-cycle-requires : tie.Need-put-cycle-requires
 put-cycle-requires c κs =
@@ -39,11 +39,11 @@ put-cycle-requires c κs =
 
 returns : tie.Need-returns
 unfolding doing
-returns c = let a = c .before .before .before in none-written (c .enum-told .given .1) (a .args .k) (now (a .args .buf)) refl
+returns c = let a = c .before .before .before in none-written (a .args .origin) (c .enum-told .given .1) (a .args .k) (now (a .args .buf)) refl
 
 returns-2 : tie.Need-returns-2
 unfolding doing
-returns-2 c = let a = c .before .before .before in none-written (c .enum-told2 .given .1) (a .args .k) (now (a .args .buf)) refl
+returns-2 c = let a = c .before .before .before in none-written (a .args .origin) (c .enum-told2 .given .1) (a .args .k) (now (a .args .buf)) refl
 
 returns-3 : tie.Need-returns-3
 unfolding doing
@@ -51,7 +51,7 @@ returns-3 c =
     let w = c .before .before in
     let m = w .before .before .before in
     let a = m .before .before .before in
-    one-written (m .d .given .1) (a .args .k) (now (a .args .buf)) (w .write-record .ensures) refl refl
+    one-written (a .args .origin) (m .d .given .1) (a .args .k) (now (a .args .buf)) (w .write-record .ensures) refl refl
 
 returns-4 : tie.Need-returns-4
 unfolding doing
@@ -59,7 +59,7 @@ returns-4 c =
     let w = c .before .before in
     let m = w .before .before .before .before in
     let a = m .before .before .before in
-    one-written (m .d2 .given .1) (a .args .k) (now (a .args .buf)) (w .write-record2 .ensures) refl refl
+    one-written (a .args .origin) (m .d2 .given .1) (a .args .k) (now (a .args .buf)) (w .write-record2 .ensures) refl refl
 
 returns-5 : tie.Need-returns-5
 unfolding doing
@@ -67,7 +67,7 @@ returns-5 c =
     let w = c .before .before in
     let m = w .before .before .before in
     let a = m .before .before .before in
-    row-written (m .d3 .given .1) (a .args .k) (let r = m .d3 .given .0 .0 in arcRecords (r .arc) (r .f) (r .g95)) (now (a .args .buf)) (w .put-round .ensures) refl
+    row-written (a .args .origin) (m .d3 .given .1) (a .args .k) (let r = m .d3 .given .0 .0 in arcRecords (r .arc) (r .f) (r .g95)) (now (a .args .buf)) (w .put-round .ensures) refl
 
 returns-6 : tie.Need-returns-6
 unfolding doing
@@ -75,7 +75,7 @@ returns-6 c =
     let w = c .before .before in
     let m = w .before .before .before in
     let a = m .before .before .before in
-    row-written (m .d4 .given .1) (a .args .k) (cycle.records (m .d4 .given .0 .0)) (now (a .args .buf)) (w .put-cycle .ensures) refl
+    row-written (a .args .origin) (m .d4 .given .1) (a .args .k) (cycle.records (m .d4 .given .0 .0)) (now (a .args .buf)) (w .put-cycle .ensures) refl
 
 pub put-deed-spec : {M : Type 1} → statement M
 put-deed-spec =

@@ -22,10 +22,10 @@ same-length c = search needs
 returns : tie.Need-returns
 returns c =
     let s = c .before .before .before .before .before .before in
-    written (now (s .args .buf)) (s .args .k) (s .args .what) (c .before .before .before .before .if1 .taken) (c .before .before .write-record .ensures)
+    written (s .args .origin) (now (s .args .buf)) (s .args .k) (s .args .what) (c .before .before .before .before .if1 .taken) (c .before .before .write-record .ensures)
 
 returns-2 : tie.Need-returns-2
-returns-2 c = let s = c .before .before in left-out (now (s .args .buf)) (s .args .k) (s .args .what) (c .if1 .left)
+returns-2 c = let s = c .before .before in left-out (s .args .origin) (now (s .args .buf)) (s .args .k) (s .args .what) (c .if1 .left)
 
 pub put-if-spec : {M : Type 1} → statement M
 put-if-spec = tie.close (tie.spec write-record-requires add-result same-length returns returns-2)

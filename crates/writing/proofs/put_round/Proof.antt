@@ -30,7 +30,7 @@ put-if-requires-2 c κs =
     let m = o .before in
     let a = m .before .before .before in
     let parts = parts-of {t = true} {u = true} refl (m .end-record .ensures) refl (o .centre-record .ensures) in
-    second-room (now (a .args .buf)) (a .args .k) _ _ parts (a .pre) (p .put-if .ensures)
+    second-room (now (a .args .buf)) (a .args .k) _ _ parts (a .pre) (a .args .origin) (p .put-if .ensures)
 
 same-length : tie.Need-same-length
 same-length c = search needs
@@ -44,7 +44,7 @@ returns c =
     let m = o .before in
     let a = m .before .before .before in
     let parts = parts-of {t = true} {u = true} refl (m .end-record .ensures) refl (o .centre-record .ensures) in
-    both (now (a .args .buf)) (a .args .k) _ _ parts (a .pre) (p .put-if .ensures) (q .put-if2 .ensures) .1
+    both (now (a .args .buf)) (a .args .k) _ _ parts (a .pre) (a .args .origin) (p .put-if .ensures) (q .put-if2 .ensures) .1
 
 pub put-round-spec : {M : Type 1} → statement M
 put-round-spec =

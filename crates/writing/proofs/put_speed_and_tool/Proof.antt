@@ -26,7 +26,7 @@ put-if-requires-2 c κs =
     let m = h .before .before .before in
     let a = m .before .before in
     let parts = parts-of (h .has .ensures) (m .speed-of .ensures) (c .has2 .ensures) (h .before .before .tool-of .ensures) in
-    second-room (now (a .args .buf)) (a .args .k) _ _ parts (a .pre) (p .put-if .ensures)
+    second-room (now (a .args .buf)) (a .args .k) _ _ parts (a .pre) (a .args .origin) (p .put-if .ensures)
 
 returns : tie.Need-returns
 unfolding speedAndTool
@@ -37,7 +37,7 @@ returns c =
     let m = h .before .before .before in
     let a = m .before .before in
     let parts = parts-of (h .has .ensures) (m .speed-of .ensures) (e .has2 .ensures) (h .before .before .tool-of .ensures) in
-    both (now (a .args .buf)) (a .args .k) _ _ parts (a .pre) (p .put-if .ensures) (c .before .before .put-if2 .ensures)
+    both (now (a .args .buf)) (a .args .k) _ _ parts (a .pre) (a .args .origin) (p .put-if .ensures) (c .before .before .put-if2 .ensures)
 
 pub put-speed-and-tool-spec : {M : Type 1} → statement M
 put-speed-and-tool-spec =

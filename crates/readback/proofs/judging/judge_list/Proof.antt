@@ -6,10 +6,9 @@ use native.Mathlib.Omega.{arith}
 use lib.ListN.{length}
 use denote.Ref.{now}
 use borrow.Author.Needs.{needs}
-use borrow.Author.Tests.{not-true, not-false}
 use Rattle.moves.specs.Form.{headerSize}
-use Rattle.readback.specs.Lists.{markWrong, lengthWrong}
-use Rattle.readback.proofs.Judges.{long-enough, right-length, refused-mark, refused-version, refused-length, refused-record, all-good}
+use Rattle.readback.specs.Lists.{markWrong}
+use Rattle.readback.proofs.Judges.{long-enough, refused-mark, is-first, is-second, refused-version}
 use Rattle.readback.proofs.judging.judge_list.Statement.{statement}
 use Rattle.readback.proofs.judging.judge_list.Tie as tie
 
@@ -26,51 +25,33 @@ long c = long-enough (now (c .before .before .before .args .list)) (marked c)
 two-at-requires : tie.Need-two-at-requires
 two-at-requires c κs = omega (arith, long c)
 
+judge-as-requires : tie.Need-judge-as-requires
+judge-as-requires c κs = long (c .before .before)
+
 returns-2 : tie.Need-returns-2
 returns-2 c =
-    let t = c .before in
+    let i = c .before in
+    let t = i .before in
     let e = t .before in
-    refused-version (now (e .before .before .before .args .list)) (marked e) (t .two-at .result) (t .two-at .ensures) (c .if2 .taken)
+    c .judge-as .ensures ∙ is-first (now (e .before .before .before .args .list)) (marked e) (t .two-at .result) (t .two-at .ensures .0) (i .if2 .taken)
 
-two-at-requires-2 : tie.Need-two-at-requires-2
-two-at-requires-2 c κs = omega (arith, long (c .before .before))
-
-length-wrong-requires : tie.Need-length-wrong-requires
-length-wrong-requires c κs = (long (c .before .before .before), c .two-at2 .ensures)
-
--- the length is right
-measured : (c : tie.Else3) → lengthWrong (now (c .before .before .before .before .before .before .before .before .args .list)) ≡ false
-measured c = sym (c .before .length-wrong .ensures) ∙ c .if3 .left
+judge-as-requires-2 : tie.Need-judge-as-requires-2
+judge-as-requires-2 c κs = long (c .before .before .before)
 
 returns-3 : tie.Need-returns-3
 returns-3 c =
-    let n = c .before .before in
-    let e = n .before in
-    let t = e .before in
-    refused-length (now (t .before .before .before .before .args .list)) (marked (t .before)) (t .two-at .result) (t .two-at .ensures) (e .if2 .left) (sym (c .before .length-wrong .ensures) ∙ c .if3 .taken)
-
-row-right-requires : tie.Need-row-right-requires
-row-right-requires c κs =
-    let n = c .before .before in
-    omega (arith, right-length (now (n .before .before .before .before .before .before .args .list)) (n .two-at2 .result) (n .two-at2 .ensures) (measured c))
+    let j = c .before in
+    let i = j .before in
+    let t = i .before in
+    let e = t .before in
+    c .judge-as2 .ensures ∙ is-second (now (e .before .before .before .args .list)) (marked e) (t .two-at .result) (t .two-at .ensures .0) (i .if2 .left) (j .if3 .taken)
 
 returns-4 : tie.Need-returns-4
 returns-4 c =
-    let m = c .before .before in
-    let n = m .before .before in
-    let e = n .before in
-    let t = e .before in
-    refused-record (now (t .before .before .before .before .args .list)) (marked (t .before)) (t .two-at .result) (t .two-at .ensures) (e .if2 .left) (measured m) (n .two-at2 .result)
-    (n .two-at2 .ensures) (c .before .row-right .result) (c .before .row-right .ensures) (not-true _ (c .if4 .taken))
-
-returns-5 : tie.Need-returns-5
-returns-5 c =
-    let m = c .before .before in
-    let n = m .before .before in
-    let e = n .before in
-    let t = e .before in
-    all-good (now (t .before .before .before .before .args .list)) (marked (t .before)) (t .two-at .result) (t .two-at .ensures) (e .if2 .left) (measured m) (n .two-at2 .result)
-    (n .two-at2 .ensures) (c .before .row-right .result) (c .before .row-right .ensures) (not-false _ (c .if4 .left))
+    let i = c .before in
+    let t = i .before in
+    let e = t .before in
+    refused-version (now (e .before .before .before .args .list)) (marked e) (t .two-at .result) (t .two-at .ensures .0) (i .if2 .left) (c .if3 .left)
 
 pub judge-list-spec : {M : Type 1} → statement M
 judge-list-spec =
@@ -79,11 +60,9 @@ judge-list-spec =
     (λ c κs. search needs)
     returns
     two-at-requires
-    (λ c. search needs)
+    judge-as-requires
     returns-2
-    two-at-requires-2
-    length-wrong-requires
+    (λ c. search needs)
+    judge-as-requires-2
     returns-3
-    row-right-requires
-    returns-4
-    returns-5)
+    returns-4)

@@ -6,12 +6,14 @@ use lib.ListN.{length, take}
 use denote.Ref.{now}
 use borrow.Author.Needs.{needs}
 use Rattle.whole.specs.Bytes.{laid}
-use Rattle.moves.specs.Form.{recordStart, rowBytes}
+use Rattle.moves.specs.Form.{recordStart, rowFrom}
+use Rattle.tape.specs.Lines.{lines}
+use Rattle.finding.proofs.Searching.{program-small}
 use Rattle.block.specs.Worded.{Worded}
 use Rattle.block.specs.declared.words.Block.{Block}
 use Rattle.machine.specs.Blocks.{blockRecords, outcomeOf}
-use Rattle.steps.specs.Steps.{Task, taskOf, blockOn, onwardBy, onwardOf, alarmBy}
-use Rattle.steps.proofs.Stepping.{words-are, same-place, same-after, behind-number, worded-in, onward-same, some-left, refused-asked, refused-block, went}
+use Rattle.steps.specs.Steps.{Task, taskOf, blockOn, onwardBy, onwardOf, alarmBy, originAt}
+use Rattle.steps.proofs.Stepping.{words-are, same-place, same-after, same-origin, behind-number, worded-in, onward-same, some-left, refused-asked, refused-block, went}
 use Rattle.steps.proofs.step.do_block.Statement.{statement}
 use Rattle.steps.proofs.step.do_block.Tie as tie
 
@@ -43,28 +45,29 @@ fine c = sym (c .before .alarm-by .ensures ∙ ap alarmBy (asked (c .before .bef
 
 -- what the machine did, with the block's words as they are defined
 done : (c : tie.After-run-block) →
-    let s = begun (c .before .before .before .before .before .before) in
+    let s = begun (c .before .before .before .before .before .before .before) in
     let a = s .args in
     let t = task s in
     c .run-block .result ≡ outcomeOf (t .table) (t .settings) (a .run .state) (blockOn (t .tape) (a .frame .at)) (t .room) (a .run .count)
 done c =
-    let o = c .before .before .before .before .before .before in
+    let o = c .before .before .before .before .before .before .before in
     let a = begun o .args in
     let t = task (begun o) in
     c .run-block .ensures .0 ∙ ap (λ (b : Block). outcomeOf (t .table) (t .settings) (a .run .state) b (t .room) (a .run .count)) (words o)
 
 written : (c : tie.After-run-block) →
-    let s = begun (c .before .before .before .before .before .before) in
+    let s = begun (c .before .before .before .before .before .before .before) in
     let a = s .args in
     let t = task s in
     c .run-block .last .1 .1 .1 .1 .0
-    ≡ laid (now (a .buf)) (recordStart (a .run .count)) (rowBytes (blockRecords (t .table) (t .settings) (a .run .state) (blockOn (t .tape) (a .frame .at)) (t .room - a .run .count)))
+    ≡ laid (now (a .buf)) (recordStart (a .run .count)) (rowFrom (originAt (t .tape) (a .frame)) (blockRecords (t .table) (t .settings) (a .run .state) (blockOn (t .tape) (a .frame .at)) (t .room - a .run .count)))
 written c =
-    let o = c .before .before .before .before .before .before in
+    let o = c .before .before .before .before .before .before .before in
     let a = begun o .args in
     let t = task (begun o) in
+    let from : c .before .before .origin-of .result ≡ originAt (t .tape) (a .frame) = c .before .before .origin-of .ensures ∙ same-origin (now (a .tape)) (a .frame) (begun o .pre .1) in
     c .run-block .ensures .1
-    ∙ ap (λ (b : Block). laid (now (a .buf)) (recordStart (a .run .count)) (rowBytes (blockRecords (t .table) (t .settings) (a .run .state) b (t .room - a .run .count)))) (words o)
+    ∙ (λ i. laid (now (a .buf)) (recordStart (a .run .count)) (rowFrom (from i) (blockRecords (t .table) (t .settings) (a .run .state) (words o i) (t .room - a .run .count))))
 
 sub-words-of : tie.Need-sub-words-of
 sub-words-of c = let s = c .before .before .before .pre .1 in omega (arith, same-place _ _ s, s .known .begins)
@@ -89,16 +92,23 @@ returns c =
     refused-asked (task s) (now (a .buf)) (a .frame) (a .run) (s .pre .0)
     (c .before .alarm-by .ensures ∙ ap alarmBy (asked k)) (c .if1 .taken) (same-after (now (a .tape)) (a .frame) (s .pre .1)) (s .pre .1 .known .ends)
 
+-- both numbers have four digits
+origin-of-requires : tie.Need-origin-of-requires
+origin-of-requires c κs =
+    let s = begun (c .before .before .before .before) in
+    let a = s .args in
+    (program-small (a .frame .program .number) (lines (now (a .tape)) (a .first)) (a .frame .program .line) (s .pre .0 .there), s .pre .1 .known .small)
+
 run-block-requires : tie.Need-run-block-requires
 run-block-requires c κs =
-    let o = c .before .before .before .before .before in
+    let o = c .before .before .before .before .before .before in
     let n = begun o .pre .0 in
     (n .ready .table, n .ready .range, n .fit .sound, subst Worded (sym (o .words-of .ensures)) (worded-in _), n .ready .header, n .fit .count)
 
 sub-fewer : tie.Need-sub-fewer
 sub-fewer c =
     let r = c .before .before .before .before .before .before in
-    let e = r .before .before .before in
+    let e = r .before .before .before .before in
     let a = begun (e .before .before .before) .args in
     some-left (now (a .tape)) (a .set) (a .first) (a .frame) (a .run .«blocks_left») (blockOn (now (a .tape)) (a .frame .at)) (fine e)
 
@@ -106,7 +116,7 @@ returns-2 : tie.Need-returns-2
 returns-2 c =
     let m = c .before in
     let r = m .before .before .before .before in
-    let e = r .before .before .before in
+    let e = r .before .before .before .before in
     let s = begun (e .before .before .before) in
     let a = s .args in
     refused-block (task s) (now (a .buf)) (a .frame) (a .run) (s .pre .0) (fine e) (sym (done r) ∙ m .outcome .given .1) (written r)
@@ -116,7 +126,7 @@ returns-3 : tie.Need-returns-3
 returns-3 c =
     let m = c .before .before in
     let r = m .before .before .before .before in
-    let e = r .before .before .before in
+    let e = r .before .before .before .before in
     let k = e .before .before in
     let s = begun (k .before) in
     let a = s .args in
@@ -134,6 +144,7 @@ do-block-spec =
     onward-of-requires
     (λ c κs. search needs)
     returns
+    origin-of-requires
     run-block-requires
     (λ c. search needs)
     (λ c. search needs)

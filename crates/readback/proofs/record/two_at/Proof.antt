@@ -1,14 +1,17 @@
--- `readback::judging::two_at` meets its contract.
+-- `readback::record::two_at` meets its contract.
+use native.Mathlib.Omega.{arith}
 use denote.Ref.{now}
 use borrow.Author.Needs.{needs}
 use Rattle.readback.proofs.Taking.{two-value}
-use Rattle.readback.proofs.judging.two_at.Statement.{statement}
-use Rattle.readback.proofs.judging.two_at.Tie as tie
+use Rattle.readback.proofs.record.two_at.Statement.{statement}
+use Rattle.readback.proofs.record.two_at.Tie as tie
 
 returns : tie.Need-returns
 returns c =
     let s = c .before .before .before .before .before in
-    two-value (now (s .args .list)) (s .args .at) (c .before .before .wide .result) (c .wide2 .result) (s .pre) (c .before .before .wide .ensures .0) (c .wide2 .ensures .0)
+    let low = c .before .before .wide .ensures in
+    let high = c .wide2 .ensures in
+    (two-value (now (s .args .part)) (s .args .at) (c .before .before .wide .result) (c .wide2 .result) (s .pre) (low .0) (high .0), omega (arith, low .1, high .1))
 
 pub two-at-spec : {M : Type 1} → statement M
 two-at-spec =
