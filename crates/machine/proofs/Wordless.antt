@@ -1,20 +1,24 @@
--- A block without words is done and changes nothing: it moves nothing, writes nothing and gives no alarm.
+-- A block with no other words than G25 or G27 and L is done and changes nothing: it moves nothing, writes nothing and gives no alarm of its own. So is a block without words.
 -- Assumes nothing.
 use mathlib.Core.Path.{_≡_, refl, sym, ap, _∙_, subst}
 use mathlib.Core.Bool.{Bool, true, false, cond, _&&_, _||_}
 use mathlib.Core.List.{List, []}
 use Prim.Native.Nat.{ℕ, _+_, _-_}
 use native.Mathlib.Nat.{add-zero}
-use lib.IntN.{ℤ}
-use lib.ListN.{length}
+use lib.IntN.{ℤ, pos}
+use lib.ListN.{length, set, replicate}
 use borrow.Author.Tests.{eq-eqb}
+use Rattle.codes.specs.Codes.{gCode, mCode}
 use Rattle.codes.specs.declared.meaning.Motion.the-variants as motion
 use Rattle.acts.specs.Acting.{keep, motionBy, shiftBy, cuttingBy, revolutionBy}
 use Rattle.acts.specs.declared.acting.Kept.{Kept}
 use Rattle.acts.specs.declared.acting.Kept.the-variants.{Nothing, Of}
 use Rattle.moves.specs.declared.record.Record.{Record}
-use Rattle.block.specs.Slots.{has, gIn}
-use Rattle.block.specs.Words.{noWords}
+use Rattle.addresses.specs.Words.{lacksPoint}
+use Rattle.block.specs.Slots.{slots, steeringSlot, lSlot, has, gIn}
+use Rattle.block.specs.Words.{slotOf, noWords, isEnd, putWord}
+use Rattle.block.specs.declared.words.Block.{Block}
+use Rattle.jumping.specs.Jumping.{jumpWords}
 use Rattle.settings.specs.declared.control.Settings.{Settings}
 use Rattle.settings.specs.declared.limits.Limits.{Limits}
 use Rattle.state.specs.Modal.{blockMotion, correctionAfter, feedAfter, dueAfter, settled}
@@ -51,70 +55,109 @@ or-none : (t : Bool) → (t || false) ≡ t
 or-none true = refl
 or-none false = refl
 
-settled-same : (s : State) → settled s noWords ≡ s
-unfolding noWords has gIn motionBy shiftBy cuttingBy revolutionBy blockMotion correctionAfter feedAfter dueAfter settled
-settled-same s i = record {
-  motion = keep-same (s .motion) i;
-  g96 = s .g96;
-  g95 = s .g95;
-  «shift_group3» = s .«shift_group3»;
-  «shift_group5» = s .«shift_group5»;
-  correction = s .correction;
-  f = s .f;
-  «rapid_due» = or-none (s .«rapid_due») i;
-  x = s .x;
-  z = s .z;
-}
-
 -- ---- there is no deed: the kept motion function is none of those that need no path word
 abbrev IsNothing : Kept → Type 0
 IsNothing Nothing = Unit {0}
 IsNothing (Of m) = ⊥
-
-none-moves : (m : Kept) → keep m Nothing ≡ m → (x : Sending) → deedOf (blockMotion m noWords) noWords x ≡ deed.Nothing
-unfolding noWords has gIn motionBy blockMotion keep hasPath hasCentre straightIf roundIf moveOf deedOf
-none-moves Nothing e x = refl
-none-moves (Of motion.Rapid) e x = refl
-none-moves (Of motion.Feed) e x = refl
-none-moves (Of motion.Clockwise) e x = refl
-none-moves (Of motion.Counterclockwise) e x = refl
-none-moves (Of motion.Thread) e x = refl
-none-moves (Of motion.Dwell) e x = absurd (subst IsNothing e tt)
-none-moves (Of motion.Turning) e x = absurd (subst IsNothing e tt)
-none-moves (Of motion.Threading) e x = absurd (subst IsNothing e tt)
-none-moves (Of motion.Grooving) e x = absurd (subst IsNothing e tt)
-none-moves (Of motion.ChipBreaking) e x = absurd (subst IsNothing e tt)
-none-moves (Of motion.Redrawing) e x = absurd (subst IsNothing e tt)
 
 quiet-alarm : (l : Limits) (due : Bool) (f room : ℕ) → alarmOf (asksOf deed.Nothing l) (record { «rapid_due» = due; f = f; «other_count» = 0; «room_left» = room }) ≡ 0
 unfolding asksOf alarmOf
 quiet-alarm l true f room = refl
 quiet-alarm l false f room = refl
 
-module _ (table : List ℤ) (set : Settings) (s : State) (h : Sound s) where
-  none-deed : deedIn table set s noWords ≡ deed.Nothing
-  unfolding deedIn
-  none-deed = none-moves (s .motion) (h .kept) (sendingOf table set s noWords)
+-- a block in which G25 or G27 and L may apply, and nothing else
+abbrev quiet : ℕ → ℕ → List ℤ → ℕ → Bool → Bool → Bool → Bool → Block
+quiet steering l value words late unknown ends lacks = record {
+  value = value;
+  place = set (set (replicate slots 0) steeringSlot steering) lSlot l;
+  words = words;
+  late = late;
+  unknown = unknown;
+  ends = ends;
+  pointless = lacks;
+}
 
-  none-alarm : (room : ℕ) → alarmIn table set s noWords room ≡ 0
-  unfolding noWords has stops otherCount asksIn askedIn alarmIn
-  none-alarm room =
-      ap (λ (d : Deed). alarmOf (asksOf d (set .limits)) (askedIn s noWords room)) none-deed ∙ quiet-alarm (set .limits) (settled s noWords .«rapid_due») (settled s noWords .f) room
+module _ (steering l : ℕ) (value : List ℤ) (words : ℕ) (late unknown ends lacks : Bool) where
+  abbrev b : Block
+  b = quiet steering l value words late unknown ends lacks
 
-  none-records : doneRecords table set s noWords ≡ []
-  unfolding noWords has oneIf speedAndTool spindleAndCoolant stops stopping doing writes doneRecords
-  none-records = ap (λ (d : Deed). writes (settled s noWords) noWords d) none-deed
+  settled-same : (s : State) → settled s b ≡ s
+  unfolding has gIn motionBy shiftBy cuttingBy revolutionBy blockMotion correctionAfter feedAfter dueAfter settled
+  settled-same s i = record {
+    motion = keep-same (s .motion) i;
+    g96 = s .g96;
+    g95 = s .g95;
+    «shift_group3» = s .«shift_group3»;
+    «shift_group5» = s .«shift_group5»;
+    correction = s .correction;
+    f = s .f;
+    «rapid_due» = or-none (s .«rapid_due») i;
+    x = s .x;
+    z = s .z;
+  }
 
-  none-state : doneState table set s noWords ≡ s
-  unfolding done doneState
-  none-state = ap (λ (d : Deed). done (settled s noWords) d) none-deed ∙ settled-same s
+  none-moves : (m : Kept) → keep m Nothing ≡ m → (x : Sending) → deedOf (blockMotion m b) b x ≡ deed.Nothing
+  unfolding has gIn motionBy blockMotion keep hasPath hasCentre straightIf roundIf moveOf deedOf
+  none-moves Nothing e x = refl
+  none-moves (Of motion.Rapid) e x = refl
+  none-moves (Of motion.Feed) e x = refl
+  none-moves (Of motion.Clockwise) e x = refl
+  none-moves (Of motion.Counterclockwise) e x = refl
+  none-moves (Of motion.Thread) e x = refl
+  none-moves (Of motion.Dwell) e x = absurd (subst IsNothing e tt)
+  none-moves (Of motion.Turning) e x = absurd (subst IsNothing e tt)
+  none-moves (Of motion.Threading) e x = absurd (subst IsNothing e tt)
+  none-moves (Of motion.Grooving) e x = absurd (subst IsNothing e tt)
+  none-moves (Of motion.ChipBreaking) e x = absurd (subst IsNothing e tt)
+  none-moves (Of motion.Redrawing) e x = absurd (subst IsNothing e tt)
 
-  pub wordless-records : (room : ℕ) → blockRecords table set s noWords room ≡ []
-  unfolding blockRecords
-  wordless-records room = rw (eq-eqb (alarmIn table set s noWords room) 0 (none-alarm room)) none-records
+  module _ (table : List ℤ) (given : Settings) (s : State) (h : Sound s) where
+    none-deed : deedIn table given s b ≡ deed.Nothing
+    unfolding deedIn
+    none-deed = none-moves (s .motion) (h .kept) (sendingOf table given s b)
 
-  pub wordless-done : (room k : ℕ) → outcomeOf table set s noWords room k ≡ Done (record { state = s; count = k })
-  unfolding outcomeOf
-  wordless-done room k =
-      rw (eq-eqb (alarmIn table set s noWords (room - k)) 0 (none-alarm (room - k)))
-      (λ i. Done (record { state = none-state i; count = (ap (λ (v : List Record). k + length v) none-records ∙ add-zero k) i }))
+    none-alarm : (room : ℕ) → alarmIn table given s b room ≡ 0
+    unfolding has stops otherCount asksIn askedIn alarmIn
+    none-alarm room =
+        ap (λ (d : Deed). alarmOf (asksOf d (given .limits)) (askedIn s b room)) none-deed ∙ quiet-alarm (given .limits) (settled s b .«rapid_due») (settled s b .f) room
+
+    none-records : doneRecords table given s b ≡ []
+    unfolding has oneIf speedAndTool spindleAndCoolant stops stopping doing writes doneRecords
+    none-records = ap (λ (d : Deed). writes (settled s b) b d) none-deed
+
+    none-state : doneState table given s b ≡ s
+    unfolding done doneState
+    none-state = ap (λ (d : Deed). done (settled s b) d) none-deed ∙ settled-same s
+
+    pub quiet-records : (room : ℕ) → blockRecords table given s b room ≡ []
+    unfolding blockRecords
+    quiet-records room = rw (eq-eqb (alarmIn table given s b room) 0 (none-alarm room)) none-records
+
+    pub quiet-done : (room k : ℕ) → outcomeOf table given s b room k ≡ Done (record { state = s; count = k })
+    unfolding outcomeOf
+    quiet-done room k =
+        rw (eq-eqb (alarmIn table given s b (room - k)) 0 (none-alarm (room - k)))
+        (λ i. Done (record { state = none-state i; count = (ap (λ (v : List Record). k + length v) none-records ∙ add-zero k) i }))
+
+-- ---- of a block without words, and of a jump alone
+module _ (table : List ℤ) (given : Settings) (s : State) (h : Sound s) where
+  pub wordless-records : (room : ℕ) → blockRecords table given s noWords room ≡ []
+  unfolding noWords
+  wordless-records = quiet-records 0 0 (replicate slots (pos 0)) 0 false false false false table given s h
+
+  pub wordless-done : (room k : ℕ) → outcomeOf table given s noWords room k ≡ Done (record { state = s; count = k })
+  unfolding noWords
+  wordless-done = quiet-done 0 0 (replicate slots (pos 0)) 0 false false false false table given s h
+
+  module _ (n : ℕ) where
+    jump-is : jumpWords n ≡ quiet 1 2 (jumpWords n .value) 2 false false false false
+    unfolding noWords gCode mCode slotOf isEnd lacksPoint putWord jumpWords
+    jump-is = refl
+
+    pub jump-records : (room : ℕ) → blockRecords table given s (jumpWords n) room ≡ []
+    jump-records room =
+        ap (λ (b : Block). blockRecords table given s b room) jump-is ∙ quiet-records 1 2 (jumpWords n .value) 2 false false false false table given s h room
+
+    pub jump-done : (room k : ℕ) → outcomeOf table given s (jumpWords n) room k ≡ Done (record { state = s; count = k })
+    jump-done room k =
+        ap (λ (b : Block). outcomeOf table given s b room k) jump-is ∙ quiet-done 1 2 (jumpWords n .value) 2 false false false false table given s h room k

@@ -3,6 +3,7 @@
 ghost use mathlib.Core.Path.{_≡_};
 ghost use Prim.Native.Nat.{_-_, _^_, _≤_, _<_};
 ghost use lib.ListN.{length, drop};
+ghost use Rattle.numbers.specs.declared.NumberForm.the-variants.{FiveDigits};
 ghost use Rattle.numbers.specs.Numbers.{Run, withSign, unsignedPath, signSize, pathOf, digitsIn, numberOf};
 
 // The forms of numbers: a path's (X Z U W P); digits alone, two (G M), four (N F S T and program numbers) or five (L); and D's.
@@ -155,6 +156,13 @@ fn read_digits(part: &[u8], limit: usize, most: u32) -> Number
     Number::Value(with_sign(false, value), false)
 }
 
+// The number of L, which a jump that stands alone is asked for by itself.
+pub fn read_five_digits(part: &[u8]) -> Number
+    ensures { λ r. ⌜ r ≡ numberOf FiveDigits (now (part .entry)) ⌝ }
+{
+    read_digits(part, 5, 99_999)
+}
+
 // The number that a part of a line holds.
 pub fn read_number(part: &[u8], form: NumberForm) -> Number
     ensures { λ r. ⌜ r ≡ numberOf form (now (part .entry)) ⌝ }
@@ -163,7 +171,7 @@ pub fn read_number(part: &[u8], form: NumberForm) -> Number
         NumberForm::Path => read_path(part),
         NumberForm::TwoDigits => read_digits(part, 2, 99),
         NumberForm::FourDigits => read_digits(part, 4, 9_999),
-        NumberForm::FiveDigits => read_digits(part, 5, 99_999),
+        NumberForm::FiveDigits => read_five_digits(part),
         NumberForm::DNumber => read_digits(part, 5, 32_767),
     }
 }

@@ -8,7 +8,7 @@ use native.Mathlib.Omega.{arith}
 use lib.Dec.{T, ltb, eqb}
 use lib.IntN.{ℤ}
 use lib.ListN.{length, take, drop, length-take, length-drop}
-use borrow.Author.Tests.{eq-eqb, ne-eqb, le-ltb}
+use borrow.Author.Tests.{eqb-true, eqb-false, eq-eqb, ne-eqb, le-ltb}
 use Rattle.whole.specs.Bytes.{laid}
 use Rattle.whole.proofs.Laying.{laid-nil}
 use Rattle.alarms.specs.Numbers.{tooManyBegun, wrongEnd}
@@ -19,9 +19,10 @@ use Rattle.moves.specs.declared.record.Origin.{Origin}
 use Rattle.moves.proofs.OneReading.{length-stamped}
 use Rattle.moves.proofs.Rows.{from-none}
 use Rattle.tape.specs.Lines.{gapOf, textAt, lineAt, lines}
-use Rattle.addresses.specs.Words.{nextWord, wordsFrom}
-use Rattle.block.specs.Words.{longestLine, noWords, gather, lineOf, startOf}
-use Rattle.block.specs.Slots.{has, gIn, mIn}
+use Rattle.addresses.specs.Words.{nextWord, lacksPoint, wordsFrom}
+use Rattle.codes.specs.Codes.{gCode, mCode}
+use Rattle.block.specs.Words.{longestLine, slotOf, noWords, isEnd, putWord, gather, lineOf, startOf}
+use Rattle.block.specs.Slots.{has, codeIn, gIn, mIn}
 use Rattle.block.specs.declared.words.Head.the-variants.{BlockLine}
 use Rattle.block.specs.declared.words.ReadLine.{ReadLine}
 use Rattle.block.specs.declared.words.Rest.{Rest}
@@ -31,6 +32,10 @@ use Rattle.block.proofs.Worded.{worded}
 use Rattle.state.specs.Request.{steered, flowBy, requestOf}
 use Rattle.state.specs.declared.request.Request.the-variants as next
 use Rattle.block.specs.declared.words.Block.{Block}
+use Rattle.jumping.specs.Jumping.{jumpIn, jumpWords}
+use Rattle.jumping.specs.declared.Jumping.{Jumping}
+use Rattle.jumping.specs.declared.Jumping.the-variants.{To, Other}
+use Rattle.jumping.proofs.Texts.{jump-block}
 use Rattle.finding.specs.Finding.{firstBlock, blockAt, nextBlock}
 use Rattle.finding.specs.declared.BlockAt.{BlockAt}
 use Rattle.finding.specs.declared.NextBlock.{NextBlock}
@@ -44,7 +49,7 @@ use Rattle.settings.specs.declared.control.Settings.{Settings}
 use Rattle.machine.specs.declared.BlockDone.{BlockDone}
 use Rattle.machine.specs.declared.BlockOutcome.{BlockOutcome}
 use Rattle.machine.specs.declared.BlockOutcome.the-variants.{Refused, Done}
-use Rattle.machine.proofs.Wordless.{wordless-records, wordless-done}
+use Rattle.machine.proofs.Wordless.{wordless-records, wordless-done, jump-records, jump-done}
 use Rattle.machine.proofs.Running.{WasDone, was-refused, was-done, nothing-written, done-few, done-recorded, sound-after}
 use Rattle.ahead.specs.declared.Frame.{Frame}
 use Rattle.ahead.specs.declared.Onward.{Onward}
@@ -53,7 +58,7 @@ use Rattle.steps.specs.declared.step.Run.{Run}
 use Rattle.steps.specs.declared.step.StepDone.{StepDone}
 use Rattle.ahead.specs.Ahead.{onto, lookedBy, lookedUp, lookedUpIn, FoundAt}
 use Rattle.steps.specs.Steps.{Task, blockIn, blockOn, onwardBy, onwardOf, alarmBy, alarmAt, runAfter, doneAt, recordsAt, passedBy, originAt, listedBy, Taken, takenBy, takenFrom}
-use Rattle.steps.specs.Meets.{onwardIn, originBy, Fit, Needs, Starts, Stands, Goes, Wrote, StepMeets, BlockMeets}
+use Rattle.steps.specs.Meets.{onwardIn, originBy, JumpMeets, jumpedBy, Fit, Needs, Starts, Stands, Goes, Wrote, StepMeets, BlockMeets}
 use Rattle.finding.specs.Finds.{Finds}
 use Rattle.ahead.proofs.Places.{OnwardOn, looked-on, CallFound, looked-found, looked-same}
 
@@ -71,6 +76,11 @@ module _ (line : List ℕ) (behind : ℕ) (s : Starts line behind) where
   pub words-behind : length line ≤ longestLine → gather noWords (wordsFrom line behind) .block ≡ blockIn line
   unfolding blockIn
   words-behind h = sym (rw (le-ltb longestLine (length line) h) (ap (λ (x : ReadLine). x .block) (line-from line ∙ ap (lineFrom line) (s .is))))
+
+  -- a jump alone, by the text behind the first
+  pub jump-told : length line ≤ longestLine → (j : Jumping) → j ≡ jumpIn (drop behind line) → JumpMeets line j
+  jump-told h (To n) e = sym (words-behind h) ∙ ap (λ (x : Rest). x .block) (jump-block line behind n (s .within) (sym e))
+  jump-told h Other e = tt
 
   pub words-bare : length line ≤ behind → blockIn line ≡ noWords
   unfolding blockIn
@@ -290,15 +300,74 @@ module _ (tape : List ℕ) (f : Frame) {l : BlockAt} (s : Stands tape f l) where
       let line = take (l .stop - f .at) (drop (f .at) tape) in
       sym (words-are (sym (words-bare line (l .behind) behind-number (omega (arith, same-place, h, length-take (l .stop - f .at) (drop (f .at) tape))))))
 
+-- where a block has no records the buffer is as it came
+nothing-laid : (t : Task) (b : List ℕ) (f : Frame) (r : Run) {v : List Record} → v ≡ [] → b ≡ laid b (recordStart (r .count)) (rowFrom (originAt (t .tape) f) v)
+nothing-laid t b f r none =
+    let from = originAt (t .tape) f in
+    sym (ap (laid b (recordStart (r .count))) (from-none from) ∙ laid-nil b (recordStart (r .count))) ∙ ap (λ (v : List Record). laid b (recordStart (r .count)) (rowFrom from v)) (sym none)
+
 -- ---- a block without words is passed
 pub passed : (t : Task) (b : List ℕ) (f : Frame) (r : Run) {places : List ℕ} {count : ℕ} → Needs t (length b) places count f r → blockOn (t .tape) (f .at) ≡ noWords → 0 < r .«blocks_left»
     → {after : ℕ} → after ≡ lineAt (t .tape) (f .at) .after → after ≤ length (t .tape) → BlockMeets t b f r (passedBy r after) b
 passed t b f r n e some h k =
-    let from = originAt (t .tape) f in
     let on : onwardOf t f r ≡ On = onward-none (t .tape) (t .settings) (t .first) f (r .«blocks_left») (blockOn (t .tape) (f .at)) e some in
     let is = ap (λ (x : Block). outcomeOf (t .table) (t .settings) (r .state) x (t .room) (r .count)) e ∙ wordless-done (t .table) (t .settings) (r .state) (n .fit .sound) (t .room) (r .count) in
     let none = ap (λ (x : Block). blockRecords (t .table) (t .settings) (r .state) x (t .room - r .count)) e ∙ wordless-records (t .table) (t .settings) (r .state) (n .fit .sound) (t .room - r .count) in
-    went t b f r n (ap alarmBy on ∙ quiet-on) is (sym (ap (laid b (recordStart (r .count))) (from-none from) ∙ laid-nil b (recordStart (r .count))) ∙ ap (λ (v : List Record). laid b (recordStart (r .count)) (rowFrom from v)) (sym none)) h k (sym on) refl
+    went t b f r n (ap alarmBy on ∙ quiet-on) is (nothing-laid t b f r none) h k (sym on) refl
+
+-- ---- a jump alone
+jump-request : (n : ℕ) → requestOf (jumpWords n) ≡ next.Jump n
+unfolding noWords gCode mCode slotOf isEnd lacksPoint putWord jumpWords has codeIn gIn mIn steered flowBy requestOf
+jump-request n = refl
+
+-- what is looked up for it is what the block asks of the runner
+jump-onward : (row tape : List ℕ) (first : ℕ) → Finds row tape first → (set : Settings) (f : Frame) → FoundAt tape first (f .program) → (left : ℕ) → 0 < left → (b : Block) (n : ℕ) → b ≡ jumpWords n
+    → lookedUpIn row set f (next.Jump n) ≡ onwardBy tape set first f left b
+unfolding onwardIn
+jump-onward row tape first finds set f there left some b n e =
+    ap (lookedUpIn row set f) (sym (ap requestOf e ∙ jump-request n))
+    ∙ ap (λ (t : Bool). cond t (Stop tooManyBegun (f .at)) (lookedUpIn row set f (requestOf b))) (sym (ne-eqb left 0 (λ z. absurd (omega (arith, some, z)))))
+    ∙ onward-same row tape first finds set f there left b
+
+-- what the code makes of what was looked up
+module _ (o : Onward) (f : Frame) (r : Run) (after : ℕ) where
+  pub jump-refused : {a : ℕ} → a ≡ alarmBy o → (a ≡ 0 → ⊥) → record { onward = Stop a (f .at); run = r; after = after } ≡ jumpedBy o f r after
+  jump-refused {a} e some =
+      (λ i. record { onward = Stop (e i) (f .at); run = r; after = after })
+      ∙ ap (λ (y : Bool). cond y (record { onward = o; run = record { state = r .state; «blocks_left» = r .«blocks_left» - 1; count = r .count }; after = after }) (record { onward = Stop (alarmBy o) (f .at); run = r; after = after }))
+      (sym (ne-eqb (alarmBy o) 0 (λ z. some (e ∙ z))))
+
+  pub jump-went : {v : Onward} → v ≡ o → alarmBy o ≡ 0 → record { onward = v; run = record { state = r .state; «blocks_left» = r .«blocks_left» - 1; count = r .count }; after = after } ≡ jumpedBy o f r after
+  jump-went e fine =
+      (λ i. record { onward = e i; run = record { state = r .state; «blocks_left» = r .«blocks_left» - 1; count = r .count }; after = after })
+      ∙ ap (λ (y : Bool). cond y (record { onward = o; run = record { state = r .state; «blocks_left» = r .«blocks_left» - 1; count = r .count }; after = after }) (record { onward = Stop (alarmBy o) (f .at); run = r; after = after }))
+      (sym (eq-eqb (alarmBy o) 0 fine))
+
+pub jumped : (t : Task) (b : List ℕ) (f : Frame) (r : Run) {places : List ℕ} {count : ℕ} → Needs t (length b) places count f r → (n : ℕ) → blockOn (t .tape) (f .at) ≡ jumpWords n → 0 < r .«blocks_left»
+    → {after : ℕ} → after ≡ lineAt (t .tape) (f .at) .after → after ≤ length (t .tape) → BlockMeets t b f r (jumpedBy (lookedUpIn (take count places) (t .settings) f (next.Jump n)) f r after) b
+jumped t b f r {places} {count} needs n e some {after} h k = by (eqb (alarmBy onward) 0) refl
+  where
+    onward : Onward
+    onward = lookedUpIn (take count places) (t .settings) f (next.Jump n)
+
+    same : onward ≡ onwardOf t f r
+    same = jump-onward (take count places) (t .tape) (t .first) (needs .ready .finds) (t .settings) f (needs .there) (r .«blocks_left») some (blockOn (t .tape) (f .at)) n e
+
+    from : Origin
+    from = originAt (t .tape) f
+
+    is : outcomeOf (t .table) (t .settings) (r .state) (blockOn (t .tape) (f .at)) (t .room) (r .count) ≡ Done (record { state = r .state; count = r .count })
+    is = ap (λ (x : Block). outcomeOf (t .table) (t .settings) (r .state) x (t .room) (r .count)) e ∙ jump-done (t .table) (t .settings) (r .state) (needs .fit .sound) n (t .room) (r .count)
+
+    none : blockRecords (t .table) (t .settings) (r .state) (blockOn (t .tape) (f .at)) (t .room - r .count) ≡ []
+    none = ap (λ (x : Block). blockRecords (t .table) (t .settings) (r .state) x (t .room - r .count)) e ∙ jump-records (t .table) (t .settings) (r .state) (needs .fit .sound) n (t .room - r .count)
+
+    by : (y : Bool) → eqb (alarmBy onward) 0 ≡ y
+        → BlockMeets t b f r
+        (cond y (record { onward = onward; run = record { state = r .state; «blocks_left» = r .«blocks_left» - 1; count = r .count }; after = after })
+        (record { onward = Stop (alarmBy onward) (f .at); run = r; after = after })) b
+    by true q = went t b f r needs (sym (ap alarmBy same) ∙ eqb-true (alarmBy onward) 0 q) is (nothing-laid t b f r none) h k same refl
+    by false q = refused-asked t b f r needs (ap alarmBy same) (eqb-false (alarmBy onward) 0 q) h k
 
 -- ---- a step: the next block that was found, or the program's end
 abbrev IsAt : NextBlock → Type 0

@@ -2,7 +2,7 @@
 use mathlib.Core.Path.{_≡_}
 use mathlib.Core.Bool.{cond}
 use mathlib.Core.List.{List, []}
-use Prim.Native.Nat.{ℕ, _+_, _≤_, _<_}
+use Prim.Native.Nat.{ℕ, _+_, _-_, _≤_, _<_}
 use lib.Dec.{eqb}
 use lib.ListN.{length, take}
 use Rattle.whole.specs.Bytes.{laid}
@@ -17,6 +17,9 @@ use Rattle.block.specs.Words.{startOf}
 use Rattle.block.specs.declared.words.Block.{Block}
 use Rattle.block.specs.declared.words.Head.{Head}
 use Rattle.block.specs.declared.words.LineStart.the-variants.{With}
+use Rattle.jumping.specs.Jumping.{jumpWords}
+use Rattle.jumping.specs.declared.Jumping.{Jumping}
+use Rattle.jumping.specs.declared.Jumping.the-variants.{To, Other}
 use Rattle.finding.specs.Finding.{blockAt, BlockIn}
 use Rattle.finding.specs.Finds.{Finds}
 use Rattle.finding.specs.declared.BlockAt.{BlockAt}
@@ -28,7 +31,7 @@ use Rattle.ahead.specs.declared.Onward.{Onward}
 use Rattle.ahead.specs.declared.Onward.the-variants.{On, Call, Jump, Return, End, Stop}
 use Rattle.steps.specs.declared.step.Run.{Run}
 use Rattle.steps.specs.declared.step.StepDone.{StepDone}
-use Rattle.steps.specs.Steps.{Task, doneAt, recordsAt, originAt, listedBy, takenFrom}
+use Rattle.steps.specs.Steps.{Task, doneAt, recordsAt, originAt, listedBy, takenFrom, blockIn, alarmBy}
 
 -- what a block asks of the runner, as the code looks it up: by the row of the table of places
 unfoldable pub onwardIn : List ℕ → Settings → Frame → ℕ → Block → Onward
@@ -37,6 +40,18 @@ onwardIn row set f left b = cond (eqb left 0) (Stop tooManyBegun (f .at)) (looke
 -- where the records of a block come from, as the code has it: by the line that was found
 abbrev pub originBy : Frame → BlockAt → Origin
 originBy f l = record { program = f .program .number; block = l .number }
+
+-- a jump that a line's text told: its block has the words G27 and L and no other
+abbrev pub JumpMeets : List ℕ → Jumping → Type 0
+JumpMeets line (To n) = blockIn line ≡ jumpWords n
+JumpMeets line Other = Unit {0}
+
+-- what comes of a jump alone, where that was looked up for it: the alarm leaves the run as it was
+abbrev pub jumpedBy : Onward → Frame → Run → ℕ → StepDone
+jumpedBy onward f r after =
+    cond (eqb (alarmBy onward) 0)
+    (record { onward = onward; run = record { state = r .state; «blocks_left» = r .«blocks_left» - 1; count = r .count }; after = after })
+    (record { onward = Stop (alarmBy onward) (f .at); run = r; after = after })
 
 -- ---- before it
 -- alarms 1 and 3 were judged before, and what is looked up in the first entries of the table of places is what the walk finds

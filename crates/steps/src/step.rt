@@ -4,16 +4,20 @@ use ahead::Onward;
 use block::words::Block;
 use finding::BlockAt;
 use finding::NextBlock;
+use jumping::Jumping;
 use machine::BlockOutcome;
 use moves::record::Origin;
 use settings::control::Settings;
 use state::modal::State;
+use state::request::Request;
 ghost use mathlib.Core.Path.{_≡_};
 ghost use Prim.Native.Nat.{_≤_, _<_};
 ghost use lib.ListN.{length, take};
 ghost use Rattle.places.specs.Places.{Row};
+ghost use Rattle.state.specs.declared.request.Request.the-variants.{Jump};
+ghost use Rattle.ahead.specs.Ahead.{lookedUpIn};
 ghost use Rattle.steps.specs.Steps.{taskOf, blockIn, alarmBy, passedBy};
-ghost use Rattle.steps.specs.Meets.{onwardIn, originBy, Needs, Starts, Stands, StepMeets, BlockMeets};
+ghost use Rattle.steps.specs.Meets.{onwardIn, originBy, Needs, Starts, Stands, JumpMeets, jumpedBy, StepMeets, BlockMeets};
 
 // A run between two blocks: the machine's state, how many blocks may still be begun, and how many records are written.
 pub struct Run {
@@ -55,6 +59,17 @@ fn words_of(line: &[u8], behind: usize) -> Block
     rest.block
 }
 
+// The jump of a block line that has no other words, by the text behind its block number. A line that is too long has no words.
+fn jump_on(line: &[u8], behind: usize) -> Jumping
+    requires { ⌜ Starts (now line) behind ⌝ }
+    ensures { λ r. ⌜ JumpMeets (now (line .entry)) r ⌝ }
+{
+    if line.len() > block::words::LONGEST_LINE {
+        return Jumping::Other;
+    }
+    jumping::jump_in(&line[behind..])
+}
+
 // What the block at the frame's place asks of the runner, where so many blocks may still begin: alarms 13, 14, 10, 11 and 12.
 fn onward_of(
     places: &[u64],
@@ -86,8 +101,8 @@ fn origin_of(frame: Frame, line: BlockAt) -> Origin
     }
 }
 
-// Does the block of a line that was found, which is the one at the frame's place.
-fn do_block(
+// Does the block of a line that was found, by its words.
+fn do_words(
     tape: &[u8],
     table: &[i32],
     set: Settings,
@@ -159,6 +174,83 @@ fn pass_block(run: Run, after: usize) -> StepDone
         run: then,
         after,
     }
+}
+
+// Does a block that is a jump alone: it changes nothing but where the run goes on and how many blocks may still be begun.
+fn do_jump(
+    places: &[u64],
+    count: usize,
+    set: Settings,
+    frame: Frame,
+    to: u32,
+    run: Run,
+    after: usize,
+) -> StepDone
+    requires { ⌜ (count ≤ length (now places)) × Row (take count (now places)) × (0 < run .«blocks_left») ⌝ }
+    ensures { λ r. ⌜ r ≡ jumpedBy (lookedUpIn (take count (now (places .entry))) set frame (Jump to)) frame run after ⌝ }
+{
+    let onward = ahead::look_up(places, count, set, frame, Request::Jump(to));
+    let asked = alarm_by(onward);
+    if asked != 0 {
+        return StepDone {
+            onward: Onward::Stop(asked, frame.at),
+            run,
+            after,
+        };
+    }
+    let state = run.state;
+    let fewer = run.blocks_left - 1;
+    let then = Run {
+        state,
+        blocks_left: fewer,
+        count: run.count,
+    };
+    StepDone {
+        onward,
+        run: then,
+        after,
+    }
+}
+
+// Does the block of a line that was found, which is the one at the frame's place. A jump that stands alone is told by the text, without its words being put together.
+fn do_block(
+    tape: &[u8],
+    table: &[i32],
+    set: Settings,
+    places: &[u64],
+    count: usize,
+    first: usize,
+    buf: &mut [u8],
+    frame: Frame,
+    line: BlockAt,
+    run: Run,
+) -> StepDone
+    requires { ⌜ Needs (taskOf (now tape) (now table) set first (length (now buf))) (length (now buf)) (now places) count frame run × Stands (now tape) frame line ⌝ }
+    ensures { λ r. ⌜ BlockMeets (taskOf (now (tape .entry)) (now (table .entry)) set first (length (now (buf .entry)))) (now (buf .entry)) frame run r (now (buf .exit)) ⌝ }
+{
+    let at = frame.at;
+    let stop = line.stop;
+    let jump = jump_on(&tape[at..stop], line.behind);
+    match jump {
+        Jumping::To(to) => {
+            if 0 < run.blocks_left {
+                return do_jump(places, count, set, frame, to, run, line.after);
+            }
+        }
+        Jumping::Other => {}
+    }
+    do_words(
+        tape,
+        table,
+        set,
+        places,
+        count,
+        first,
+        buf,
+        frame,
+        line,
+        run,
+    )
 }
 
 // Takes a step from the line at the frame's place on. The tape's first line, from which the definitions walk, stands at `first`; the code looks in the first `count` entries of `places`.

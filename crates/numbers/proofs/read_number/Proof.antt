@@ -17,12 +17,11 @@ unfolding numberOf
 returns-3 c = rw (c .before .enum-told3 .given .1) (c .read-digits2 .ensures)
 
 returns-4 : tie.Need-returns-4
-unfolding numberOf
-returns-4 c = rw (c .before .enum-told4 .given .1) (c .read-digits3 .ensures)
+returns-4 c = rw (c .before .enum-told4 .given .1) (c .read-five-digits .ensures)
 
 returns-5 : tie.Need-returns-5
 unfolding numberOf
-returns-5 c = rw (c .before .enum-told5 .given .1) (c .read-digits4 .ensures)
+returns-5 c = rw (c .before .enum-told5 .given .1) (c .read-digits3 .ensures)
 
 pub read-number-spec : {M : Type 1} → statement M
 read-number-spec =

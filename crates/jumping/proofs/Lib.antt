@@ -1,0 +1,2 @@
+-- The laws of a jump that stands alone.
+pub mod Texts
