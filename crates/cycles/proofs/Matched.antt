@@ -1,4 +1,4 @@
--- What was asked of a cycle, or of its cursor, of the one that it was matched to: every arm of every function cites these.
+-- What was asked of a cycle, of the one that it was matched to: every arm of every function cites these.
 -- Assumes nothing.
 use mathlib.Core.Path.{_≡_, sym, ap, _∙_, subst}
 use mathlib.Core.Bool.{false}
@@ -6,12 +6,9 @@ use lib.ListN.{length}
 use Rattle.settings.specs.declared.limits.Limits.{Limits}
 use Rattle.axes.specs.Limits.{anyOutside}
 use Rattle.cycles.specs.declared.Cycle.{Cycle}
-use Rattle.cycles.specs.declared.cursor.Cursor.{Cursor}
 use Rattle.cycles.specs.Cycle.{wrong, records}
 use Rattle.cycles.specs.Known.{Known}
-use Rattle.cycles.specs.Cursor.{over, Sound}
 
--- ---- a cycle c that was matched to d
 module _ {c d : Cycle} (is : c ≡ d) where
   pub right : wrong c ≡ false → wrong d ≡ false
   right e = ap wrong (sym is) ∙ e
@@ -24,11 +21,3 @@ module _ {c d : Cycle} (is : c ≡ d) where
 
   pub counts : length (records d) ≡ length (records c)
   counts = ap (λ (c : Cycle). length (records c)) (sym is)
-
--- ---- a cursor c that was matched to d
-module _ {c d : Cursor} (is : c ≡ d) where
-  pub sound-of : Sound c → Sound d
-  sound-of s = subst Sound is s
-
-  pub going-of : over c ≡ false → over d ≡ false
-  going-of e = ap over (sym is) ∙ e

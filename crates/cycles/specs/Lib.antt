@@ -2,4 +2,3 @@
 pub mod Feeds
 pub mod Cycle
 pub mod Known
-pub mod Cursor

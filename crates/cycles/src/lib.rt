@@ -1,24 +1,16 @@
 // The cycles as one family. Whoever runs a block asks a cycle what is asked here, and never which cycle it is.
-// A new cycle is a crate of its own, a row in the table of `codes` and in that of `acts`, the clause of `deeds` that gives it its numbers, and one arm in each function below.
-pub mod cursor;
-
-use crate::cursor::Cursor;
+// A new cycle is a crate of its own, a row in the table of `codes` and in that of `acts`, the clause of `deeds` that gives it its numbers, and one arm in each function below and in the block's cursor (`writing`).
 use drilling::bore::Bore;
 use grooving::groove::Groove;
-use moves::record::Origin;
 use settings::limits::Limits;
 use threading::thread::Thread;
 use turning::cycle::Turning;
 ghost use mathlib.Core.Path.{_≡_};
 ghost use mathlib.Core.Bool.{false};
-ghost use Prim.Native.Nat.{_+_, _*_, _≤_};
 ghost use lib.ListN.{length};
-ghost use Rattle.whole.specs.Bytes.{laid};
-ghost use Rattle.moves.specs.Form.{recordSize, recordStart, rowFrom};
 ghost use Rattle.axes.specs.Limits.{anyOutside};
 ghost use Rattle.cycles.specs.Cycle.{wrong, leastFeed, records};
 ghost use Rattle.cycles.specs.Known.{Known};
-ghost use Rattle.cycles.specs.Cursor.{restOf, Sound};
 
 // "A move by G01, G84 or G86 needs 1 to 9999, by G33 10 to 9999." A thread by G85 needs what G33 does, a bore by G87 or G88 what G84 does.
 pub const LEAST_FEED: u32 = 1;
@@ -81,32 +73,5 @@ pub fn record_count(c: Cycle) -> u64
         Cycle::Threading(t) => threading::thread::record_count(t),
         Cycle::Grooving(g) => grooving::groove::record_count(g),
         Cycle::Drilling(b) => drilling::bore::record_count(b),
-    }
-}
-
-// Writes the records of a cycle that a block has opened, from record k on. Its lengths and its room were asked for before (alarms 19 and 20).
-pub fn put_cycle(buf: &mut [u8], k: usize, c: Cycle, origin: Origin)
-    requires { ⌜ (wrong c ≡ false) × Known c × (recordStart (k + length (records c)) ≤ length (now buf)) ⌝ }
-    ensures { λ _. ⌜ now (buf .exit) ≡ laid (now (buf .entry)) (recordStart k) (rowFrom origin (records c)) ⌝ }
-{
-    let opened = cursor::open(c);
-    let first = moves::HEADER_SIZE + moves::RECORD_SIZE * k;
-    put_rest(buf, first, opened, origin);
-}
-
-// Writes all that is left of a cycle, its next record's first byte at `first`: the one loop that writes, whichever cycle it is. A cycle knows nothing of its block: that is put on
-// here.
-fn put_rest(buf: &mut [u8], first: usize, c: Cursor, origin: Origin)
-    requires { ⌜ Sound c × (first + recordSize * length (restOf c) ≤ length (now buf)) ⌝ }
-    ensures { λ _. ⌜ now (buf .exit) ≡ laid (now (buf .entry)) first (rowFrom origin (restOf c)) ⌝ }
-{
-    let mut now = c;
-    let mut at = first;
-    while !cursor::is_over(now) {
-        let handed = cursor::next(now);
-        let record = handed.record;
-        moves::list::put_record(&mut buf[at..], record, origin);
-        now = handed.rest;
-        at += moves::RECORD_SIZE;
     }
 }

@@ -38,8 +38,3 @@ module _ (o : Origin) where
 
   pub from-append : (v w : List Record) → rowFrom o (v ++ w) ≡ rowFrom o v ++ rowFrom o w
   from-append v w = ap rowBytes (stamped-append o v w) ∙ row-append (stamped o v) (stamped o w)
-
-  pub from-on : (b : List ℕ) (k : ℕ) (v w : List Record) (n : ℕ) → k + length v ≡ n → recordStart n ≤ length b
-      → laid (laid b (recordStart k) (rowFrom o v)) (recordStart n) (rowFrom o w) ≡ laid b (recordStart k) (rowFrom o (v ++ w))
-  from-on b k v w n e h =
-      row-on b k (stamped o v) (stamped o w) n (omega (arith, e, length-stamped o v)) h ∙ ap (λ (l : List Listed). laid b (recordStart k) (rowBytes l)) (sym (stamped-append o v w))

@@ -1,10 +1,10 @@
 // The list in the lent buffer: the room it has, a record written at its place, and the header, which is written last.
 // Every function that writes says what all of the slice that it is lent holds after it: bytes that it does not name are as they came.
 ghost use mathlib.Core.Path.{_≡_};
-ghost use Prim.Native.Nat.{_+_, _≤_};
+ghost use Prim.Native.Nat.{_≤_};
 ghost use lib.ListN.{length};
 ghost use Rattle.whole.specs.Bytes.{laid};
-ghost use Rattle.moves.specs.Form.{headerSize, recordSize, recordStart, roomOf, listed, recordBytes, headerBytes};
+ghost use Rattle.moves.specs.Form.{headerSize, recordSize, roomOf, listed, recordBytes, headerBytes};
 use crate::record::Origin;
 use crate::record::Record;
 
@@ -42,15 +42,6 @@ pub fn put_record(part: &mut [u8], what: Record, origin: Origin)
         crate::AT_PROGRAM,
         [program[0], program[1], block[0], block[1]],
     );
-}
-
-// Writes record number k, from 0, of the list. (01: "written into the room after the header".)
-pub fn write_record(buf: &mut [u8], k: usize, what: Record, origin: Origin)
-    requires { ⌜ recordStart k + recordSize ≤ length (now buf) ⌝ }
-    ensures { λ _. ⌜ now (buf .exit) ≡ laid (now (buf .entry)) (recordStart k) (recordBytes (listed origin what)) ⌝ }
-{
-    let first = crate::HEADER_SIZE + crate::RECORD_SIZE * k;
-    put_record(&mut buf[first..], what, origin);
 }
 
 // Writes the header of a list of so many records. (01: "The header is written only when the run succeeds".)

@@ -2,3 +2,6 @@
 pub mod Rows
 pub mod Matched
 pub mod Chain
+pub mod Cursors
+pub mod Opening
+pub mod Writing

@@ -1,2 +1,4 @@
 -- The definitions that the contracts of this crate cite, and those of the crates built on it.
 pub mod Writes
+pub mod Cursor
+pub mod Opened

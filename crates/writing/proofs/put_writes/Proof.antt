@@ -1,77 +1,66 @@
 -- `writing::put_writes` meets its contract.
-use Prim.Native.Nat.{_+_, _<_, _^_}
+use mathlib.Core.Path.{_≡_, sym, ap, _∙_}
+use mathlib.Core.List.{List}
+use Prim.Native.Nat.{ℕ, _+_, _<_, _^_}
 use native.Mathlib.Omega.{arith}
 use lib.ListN.{length}
 use denote.Ref.{now}
 use borrow.Author.Needs.{needs}
-use Rattle.block.specs.Slots.{flowSlot}
-use Rattle.writing.proofs.Chain.{room-1, room-2, room-3, room-4, all-written}
-use Rattle.writing.proofs.Matched.{stop-made}
+use Rattle.whole.specs.Bytes.{laid}
+use Rattle.moves.specs.Form.{recordStart, rowFrom}
+use Rattle.moves.specs.declared.record.Record.{Record}
+use Rattle.writing.specs.Writes.{writes}
+use Rattle.writing.proofs.Chain.{writes-length, nothing-written}
 use Rattle.writing.proofs.put_writes.Statement.{statement}
 use Rattle.writing.proofs.put_writes.Tie as tie
 
-put-speed-and-tool-requires : tie.Need-put-speed-and-tool-requires
-put-speed-and-tool-requires c κs =
-    let a = c .before .before in
-    room-1 (a .args .s) (a .args .b) (a .args .d) (a .args .origin) (now (a .args .buf)) (a .args .k) (a .pre .3)
+-- the buffer's length fits, and so does the number of the record behind the block's
+fits : (s : tie.Start) → length (now (s .args .buf)) < 2 ^ 64
+fits s = search needs
 
-put-spindle-and-coolant-requires : tie.Need-put-spindle-and-coolant-requires
-put-spindle-and-coolant-requires c κs =
-    let one = c .before .before .before in
-    let a = one .before .before .before in
-    room-2 (a .args .s) (a .args .b) (a .args .d) (a .args .origin) (now (a .args .buf)) (a .args .k) (a .pre .3) (one .put-speed-and-tool .ensures)
+module _ (o : tie.After-other-count) where
+  abbrev start : tie.Start
+  start = o .before .before
 
-put-deed-requires : tie.Need-put-deed-requires
-put-deed-requires c κs =
-    let two = c .before .before .before in
-    let one = two .before .before .before .before in
-    let a = one .before .before .before in (
-      a .pre .0,
-      a .pre .1,
-      room-3 (a .args .s) (a .args .b) (a .args .d) (a .args .origin) (now (a .args .buf)) (a .args .k) (a .pre .3) (one .put-speed-and-tool .ensures) (two .put-spindle-and-coolant .ensures),
-    )
+  in-all : length (writes (start .args .s) (start .args .b) (start .args .d)) ≡ start .args .count + o .other-count .result
+  in-all = writes-length (start .args .s) (start .args .b) (start .args .d) ∙ (λ i. sym (start .pre .2) i + sym (o .other-count .ensures .0) i)
 
-add-last : tie.Need-add-last
-add-last c =
-    let two = c .before .before .before .before .before .before in
-    let one = two .before .before .before .before in
-    let a = one .before .before .before in
-    let fits : length (two .put-spindle-and-coolant .last .0) < 2 ^ 64 = search needs in
-    let room = room-3 (a .args .s) (a .args .b) (a .args .d) (a .args .origin) (now (a .args .buf)) (a .args .k) (a .pre .3) (one .put-speed-and-tool .ensures) (two .put-spindle-and-coolant .ensures) in
-    omega (arith, fits, room, a .pre .2)
-
-put-if-requires : tie.Need-put-if-requires
-put-if-requires c κs =
-    let three = c .before .before .before .before .before .before in
-    let two = three .before .before .before .before in
-    let one = two .before .before .before .before in
-    let a = one .before .before .before in
-    let m = c .before .before in
-    room-4 (a .args .s) (a .args .b) (a .args .d) (a .args .origin) (now (a .args .buf)) (a .args .k) (a .pre .3) (one .put-speed-and-tool .ensures) (two .put-spindle-and-coolant .ensures)
-    (a .pre .2) (three .put-deed .ensures) (c .stops .ensures) (stop-made (a .args .b) flowSlot (m .m-of .ensures) (m .before .done-of .ensures))
+add-total : tie.Need-add-total
+add-total c = omega (arith, fits (start c), start c .pre .3, in-all c)
 
 returns : tie.Need-returns
 returns c =
-    let p = c .before .before .before in
-    let three = p .before .before .before .before .before .before in
-    let two = three .before .before .before .before in
-    let one = two .before .before .before .before in
-    let a = one .before .before .before in
-    let m = p .before .before in
-    all-written (a .args .s) (a .args .b) (a .args .d) (a .args .origin) (now (a .args .buf)) (a .args .k) (a .pre .3) (one .put-speed-and-tool .ensures) (two .put-spindle-and-coolant .ensures)
-    (a .pre .2) (three .put-deed .ensures) (p .stops .ensures) (stop-made (a .args .b) flowSlot (m .m-of .ensures) (m .before .done-of .ensures)) (c .before .before .put-if .ensures)
+    let o = c .before in
+    let a = start o .args in
+    nothing-written (a .s) (a .b) (a .d) (a .origin) (now (a .buf)) (a .k) (omega (arith, writes-length (a .s) (a .b) (a .d), in-all o, c .if1 .taken))
+
+put-rest-requires : tie.Need-put-rest-requires
+put-rest-requires c κs =
+    let opened = c .before .open-block .ensures in
+    (opened .1, omega (arith, ap length (opened .0), start (c .before .before .before) .pre .3))
+
+add-result : tie.Need-add-result
+add-result c = let o = c .before .before .before .before .before .before in omega (arith, fits (start o), start o .pre .3, in-all o)
+
+returns-2 : tie.Need-returns-2
+returns-2 c =
+    let o = c .before .before .before .before .before .before in
+    let a = start o .args in
+    let p = c .before .before in
+    (ap (λ (n : ℕ). a .k + n) (sym (in-all o)), p .put-rest .ensures ∙ ap (λ (v : List Record). laid (now (a .buf)) (recordStart (a .k)) (rowFrom (a .origin) v)) (p .before .before .open-block .ensures .0))
 
 pub put-writes-spec : {M : Type 1} → statement M
 put-writes-spec =
     tie.close
     (tie.spec
-    put-speed-and-tool-requires
-    put-spindle-and-coolant-requires
-    put-deed-requires
-    add-last
     (λ c κs. search needs)
-    (λ c κs. search needs)
-    (λ c κs. search needs)
-    put-if-requires
     (λ c. search needs)
-    returns)
+    add-total
+    returns
+    (λ c. search needs)
+    (λ c. search needs)
+    (λ c κs. search needs)
+    put-rest-requires
+    add-result
+    (λ c. search needs)
+    returns-2)

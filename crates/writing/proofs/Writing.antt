@@ -1,0 +1,54 @@
+-- The records of a row that are written, and those that are left: the loop of the writer.
+-- Assumes nothing.
+use mathlib.Core.Path.{_≡_, refl, sym, ap, _∙_}
+use mathlib.Core.List.{List, [], _∷_, _++_, append-assoc, append-nil}
+use Prim.Native.Nat.{ℕ, suc, _+_, _*_, _≤_, _<_}
+use native.Mathlib.Omega.{arith}
+use lib.ListN.{length, length-append}
+use Rattle.whole.specs.Bytes.{laid}
+use Rattle.whole.proofs.Laying.{laid-nil, laid-on, length-laid}
+use Rattle.moves.specs.declared.record.Record.{Record}
+use Rattle.moves.specs.declared.record.Origin.{Origin}
+use Rattle.moves.specs.Form.{recordSize, recordBytes, listed, rowFrom}
+use Rattle.moves.proofs.Rows.{length-from, from-none, from-one, from-append}
+
+-- some of the row c is written from the place `first` on, as it came from the block o, `now` has the others, and the next is due at the place `at`
+pub record Written (o : Origin) (b₀ : List ℕ) (first : ℕ) (c : List Record) (b : List ℕ) (now : List Record) (at : ℕ) : Type 0 where
+  pub done : List Record
+  pub same : c ≡ done ++ now
+  pub place : at ≡ first + recordSize * length done
+  pub buffer : b ≡ laid b₀ first (rowFrom o done)
+
+pub none-written : (o : Origin) (b₀ : List ℕ) (first : ℕ) (c : List Record) → Written o b₀ first c b₀ c first
+none-written o b₀ first c = record { done = []; same = refl; place = omega arith; buffer = sym (ap (laid b₀ first) (from-none o) ∙ laid-nil b₀ first) }
+
+module _ {o : Origin} {b₀ : List ℕ} {first : ℕ} {c : List Record} (room : first + recordSize * length c ≤ length b₀) {b : List ℕ} {now : List Record} {at : ℕ} (w : Written o b₀ first c b now at) where
+  count : length c ≡ length (w .done) + length now
+  count = ap length (w .same) ∙ length-append (w .done) now
+
+  pub written-length : length b ≡ length b₀
+  written-length = ap length (w .buffer) ∙ length-laid b₀ first (rowFrom o (w .done)) (omega (arith, length-from o (w .done), count, room))
+
+  -- one record more
+  module _ (r : Record) (rest : List Record) (e : now ≡ r ∷ rest) where
+    one : length now ≡ suc (length rest)
+    one = ap length e
+
+    pub rest-less : length rest < length now
+    rest-less = omega (arith, one)
+
+    pub written-room : at + recordSize ≤ length b
+    written-room = omega (arith, written-length, w .place, count, one, room)
+
+    pub one-written : {u : List ℕ} → u ≡ laid b at (recordBytes (listed o r)) → Written o b₀ first c u rest (at + recordSize)
+    one-written h = record {
+      done = w .done ++ (r ∷ []);
+      same = w .same ∙ ap (λ (l : List Record). w .done ++ l) e ∙ sym (append-assoc (w .done) (r ∷ []) rest);
+      place = omega (arith, w .place, length-append (w .done) (r ∷ []));
+      buffer = h ∙ (λ i. laid (w .buffer i) at (from-one o r i))
+          ∙ laid-on b₀ first (rowFrom o (w .done)) (rowFrom o (r ∷ [])) at (omega (arith, w .place, length-from o (w .done))) (omega (arith, w .place, count, one, room))
+          ∙ ap (laid b₀ first) (sym (from-append o (w .done) (r ∷ [])));
+    }
+
+  pub all-written : now ≡ [] → b ≡ laid b₀ first (rowFrom o c)
+  all-written e = w .buffer ∙ ap (λ (l : List Record). laid b₀ first (rowFrom o l)) (sym (w .same ∙ ap (λ (l : List Record). w .done ++ l) e ∙ append-nil (w .done)))
