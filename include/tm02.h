@@ -1,7 +1,8 @@
 /* The interpreter of TM02 program tapes and the reader of its lists, as the control's firmware and the axis board call them. `rt staticlib board` writes it to target/staticlib/libboard.a; c/listmoves.c and c/printlist.c are examples.
    The archive is for x86-64 and C's System V calling convention, uses SSE registers, and needs memcpy and memset and nothing else. It has read-only data and no writable data. The
-   convention lets code use the 128 bytes below the stack pointer (the red zone) without moving it, and the kit cannot be told to leave them alone. The archive of this version does not touch
-   them, and c/compare looks for it: have it look at every archive that is built, before an interrupt handler shares the stack of a running call. This file needs C99 or C++. The contracts of the functions stand in
+   convention lets code use the 128 bytes below the stack pointer (the red zone) without moving it, and the kit cannot be told to leave them alone. Of this version tm02_read keeps
+   24 bytes there, and no other function touches them; c/compare looks for it: have it look at every archive that is built, before an interrupt handler shares the stack of a running call, and read lists by
+   tm02_judge and tm02_read_judged where one does. This file needs C99 or C++. The contracts of the functions stand in
    crates/board/src/lib.rt, docs/ALARMS.md is the alarm card. */
 #ifndef TM02_H
 #define TM02_H
@@ -125,7 +126,7 @@ enum {
    pointer is null, not even where its length is 0; each points to as many elements as its length says; table and settings are aligned as int32_t and places as uint64_t; places and the buffer overlap none of the
    others; and nothing else writes to any of them, or reads places or the buffer, during the call.
 
-   The call takes no heap and has no data of its own. It took 13,440 bytes of stack ten calls deep, measured with the archive of this version: give it 32 KiB. A run ends after 20,000
+   The call takes no heap and has no data of its own. It took 16,104 bytes of stack ten calls deep, measured with the archive of this version: give it 32 KiB. A run ends after 20,000
    blocks at the latest: do not call it from an interrupt. */
 uint64_t tm02_interpret(const uint8_t *tape, size_t tape_len, const int32_t *table, size_t table_len,
                         const int32_t *settings, size_t settings_len, uint64_t *places, size_t places_len,
