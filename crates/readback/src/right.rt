@@ -47,19 +47,31 @@ fn is_right(what: Record) -> bool
     let flag = flag_of(what.kind);
     let known = (Record::RAPID <= what.kind) & (what.kind <= Record::CENTRE);
     let flagged = (what.flags == 0) | (what.flags == flag);
-    let x = place_right(what.kind, what.x);
-    let z = place_right(what.kind, what.z);
-    (known & flagged) & (x & z)
+    if known & flagged {
+        if place_right(what.kind, what.x) {
+            return place_right(what.kind, what.z);
+        }
+    }
+    false
 }
 
-// Whether a record is right where it stands: behind an arc a centre is due, and elsewhere none.
+// Whether a kind stands where it may: behind an arc a centre is due, and elsewhere none.
+fn in_turn(due: bool, kind: u8) -> bool
+    ensures { λ r. ⌜ r ≡ inTurn due kind ⌝ }
+{
+    let centre = kind == Record::CENTRE;
+    if due {
+        return centre;
+    }
+    !centre
+}
+
+// Whether a record is right where it stands. It leaves at the first test that fails: what is kept for all of them at once is more than the registers hold.
 pub fn is_right_after(due: bool, what: Record) -> bool
     ensures { λ r. ⌜ r ≡ (inTurn due (what .kind) && isRight what) ⌝ }
 {
-    let centre = what.kind == Record::CENTRE;
-    let right = is_right(what);
-    if due {
-        return centre & right;
+    if in_turn(due, what.kind) {
+        return is_right(what);
     }
-    !centre & right
+    false
 }

@@ -1,20 +1,22 @@
 -- `readback::right::is_right_after` meets its contract.
-use mathlib.Core.Path.{sym}
+use mathlib.Core.Path.{sym, _∙_}
 use mathlib.Core.Bool.{_&&_}
 use borrow.Author.Needs.{needs}
-use Rattle.moves.specs.Kinds.{inTurn}
+use Rattle.readback.specs.Right.{isRight}
 use Rattle.readback.proofs.right.is_right_after.Statement.{statement}
 use Rattle.readback.proofs.right.is_right_after.Tie as tie
 
 returns : tie.Need-returns
 returns c =
-    let s = c .before .before .before in
-    λ i. inTurn (sym (c .if1 .taken) i) (s .args .what .kind) && c .before .is-right .ensures i
+    let t = c .before in
+    let e = sym (t .before .in-turn .ensures) ∙ t .if1 .taken in
+    λ i. sym e i && c .is-right .ensures i
 
 returns-2 : tie.Need-returns-2
 returns-2 c =
-    let s = c .before .before .before in
-    λ i. inTurn (sym (c .if1 .left) i) (s .args .what .kind) && c .before .is-right .ensures i
+    let s = c .before .before in
+    let e = sym (c .before .in-turn .ensures) ∙ c .if1 .left in
+    λ i. sym e i && isRight (s .args .what)
 
 pub is-right-after-spec : {M : Type 1} → statement M
-is-right-after-spec = tie.close (tie.spec (λ c κs. search needs) returns returns-2)
+is-right-after-spec = tie.close (tie.spec (λ c κs. search needs) (λ c κs. search needs) returns returns-2)
