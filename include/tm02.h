@@ -1,8 +1,7 @@
 /* The interpreter of TM02 program tapes and the reader of its lists, as the control's firmware and the axis board call them. `rt staticlib board` writes it to target/staticlib/libboard.a; c/listmoves.c and c/printlist.c are examples.
    The archive is for x86-64 and C's System V calling convention, uses SSE registers, and needs memcpy and memset and nothing else. It has read-only data and no writable data. The
-   convention lets code use the 128 bytes below the stack pointer (the red zone) without moving it, and the kit cannot be told to leave them alone. Of this version tm02_read keeps
-   24 bytes there, and no other function touches them; c/compare looks for it: have it look at every archive that is built, before an interrupt handler shares the stack of a running call, and read lists by
-   tm02_judge and tm02_read_judged where one does. This file needs C99 or C++. The contracts of the functions stand in
+   convention lets code use the 128 bytes below the stack pointer (the red zone) without moving it, and the kit cannot be told to leave them alone. The archive of this version does not touch
+   them, and c/compare looks for it: have it look at every archive that is built, before an interrupt handler shares the stack of a running call. This file needs C99 or C++. The contracts of the functions stand in
    crates/board/src/lib.rt, docs/ALARMS.md is the alarm card. */
 #ifndef TM02_H
 #define TM02_H
