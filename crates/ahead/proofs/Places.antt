@@ -1,13 +1,13 @@
 -- Laws of the places that the runner goes to: each is that of a line of the tape, and is the same by the table of places and by the walk.
 -- Assumes nothing.
 use mathlib.Core.Path.{_≡_, refl, ap, subst}
-use mathlib.Core.Bool.{false, cond, _||_}
+use mathlib.Core.Bool.{Bool, true, false, cond, _||_}
 use mathlib.Core.List.{List, [], _∷_}
 use Prim.Native.Nat.{ℕ, zero, suc, _<_, _≤_}
 use native.Mathlib.Omega.{arith}
 use lib.Dec.{ltb, eqb}
 use lib.ListN.{length}
-use borrow.Author.Tests.{ltb-true}
+use borrow.Author.Tests.{ltb-true, ltb-false}
 use Rattle.alarms.specs.Numbers.{programMissing}
 use Rattle.alarms.specs.Given.{IsAlarm}
 use Rattle.tape.specs.Lines.{Text, lineAt, linesUp, lines}
@@ -23,7 +23,7 @@ use Rattle.places.specs.declared.Found.the-variants.{At, Nowhere}
 use Rattle.state.specs.declared.request.Request.{Request}
 use Rattle.state.specs.declared.request.Request.the-variants as next
 use Rattle.finding.specs.Finds.{Finds}
-use Rattle.ahead.specs.Ahead.{mostCalls, calledAt, jumpedTo, lookedBy, lookedUp, lookedUpIn, FoundAt}
+use Rattle.ahead.specs.Ahead.{mostCalls, calledAt, jumpedTo, lookedBy, lookedUp, lookedUpIn, LooksUp, FoundAt}
 use Rattle.ahead.specs.declared.ProgramAt.{ProgramAt}
 use Rattle.ahead.specs.declared.Frame.{Frame}
 use Rattle.ahead.specs.declared.Onward.{Onward}
@@ -132,6 +132,37 @@ looked-found tape set first r next.End = cond-ind (CallFound tape first) (eqb (r
 -- and its line stands on the tape
 pub found-within : (tape : List ℕ) (first : ℕ) (p : ProgramAt) → FoundAt tape first p → p .line ≤ length tape
 found-within tape first p e = let l : p .line < length tape = subst (FoundIn (length tape)) e (program-on (p .number) tape first) in omega (arith, l)
+
+-- ---- whatever a table has: a program that is called has the number of a subroutine
+abbrev pub CallLow : Onward → Type 0
+CallLow On = Unit {0}
+CallLow (Call p times) = p .number ≤ highestSubroutine
+CallLow (Jump p) = Unit {0}
+CallLow Return = Unit {0}
+CallLow End = Unit {0}
+CallLow (Stop alarm place) = Unit {0}
+
+called-low : (x : Found) (n : ℕ) (f : Frame) (times : ℕ) → n ≤ highestSubroutine → CallLow (calledAt x n f times)
+unfolding calledAt
+called-low Nowhere n f times h = tt
+called-low (At p) n f times h = cond-ind CallLow (eqb (f .«calls_left») 0) _ (Call (record { number = n; line = p }) times) (λ _. tt) h
+
+by-low : (x : Found) (set : Settings) (f : Frame) (n : Request) → CallLow (lookedBy (λ _. x) (λ _. x) set f n)
+unfolding lookedBy jumpedTo
+by-low x set f next.On = tt
+by-low x set f (next.Call n times) = by (ltb n (set .«lowest_subroutine»)) (ltb highestSubroutine n) refl
+  where
+    by : (low high : Bool) → ltb highestSubroutine n ≡ high → CallLow (cond (low || high) (Stop programMissing (f .at)) (calledAt x n f times))
+    by true high e = tt
+    by false true e = tt
+    by false false e = called-low x n f times (ltb-false highestSubroutine n e)
+by-low Nowhere set f (next.Jump n) = tt
+by-low (At p) set f (next.Jump n) = tt
+by-low x set f next.Return = cond-ind CallLow (eqb (f .«calls_left») mostCalls) _ Return (λ _. tt) tt
+by-low x set f next.End = cond-ind CallLow (eqb (f .«calls_left») mostCalls) End _ (λ _. tt) tt
+
+pub looks-low : (set : Settings) (f : Frame) (n : Request) (r : Onward) → LooksUp set f n r → CallLow r
+looks-low set f n r l = rw (l .looks) (by-low (l .found) set f n)
 
 -- ---- THE LAW: what is looked up in the table of places is what the walk along the tape finds
 pub looked-same : (row tape : List ℕ) (first : ℕ) → Finds row tape first → (set : Settings) (f : Frame) → FoundAt tape first (f .program) → (n : Request)

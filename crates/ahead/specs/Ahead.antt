@@ -55,6 +55,11 @@ lookedUp tape set first f n = lookedBy (λ k. findProgram k (lines tape first)) 
 unfoldable pub lookedUpIn : List ℕ → Settings → Frame → Request → Onward
 lookedUpIn row set f n = lookedBy (λ k. programIn k row) (λ k. blockIn (f .program .number) k row) set f n
 
+-- whatever a table has: what is asked for is as if the line that is sought were found in some way. (A request seeks one line at most, a program's or a block's.)
+pub record LooksUp (set : Settings) (f : Frame) (n : Request) (r : Onward) : Type 0 where
+  pub found : Found
+  pub looks : r ≡ lookedBy (λ _. found) (λ _. found) set f n
+
 -- ---- what is known of a program of the tape: the walk finds its line where it is said to stand
 abbrev pub FoundAt : List ℕ → ℕ → ProgramAt → Type 0
 FoundAt tape first p = findProgram (p .number) (lines tape first) ≡ At (p .line)

@@ -6,7 +6,7 @@ ghost use mathlib.Core.Path.{_≡_};
 ghost use Prim.Native.Nat.{_≤_};
 ghost use lib.ListN.{length, take};
 ghost use Rattle.places.specs.Places.{Row};
-ghost use Rattle.ahead.specs.Ahead.{calledAt, jumpedTo, lookedUpIn};
+ghost use Rattle.ahead.specs.Ahead.{calledAt, jumpedTo, lookedUpIn, LooksUp};
 
 // "At most ten calls deep": the calls that are left in the main program.
 pub const MOST_CALLS: u32 = 10;
@@ -60,10 +60,12 @@ fn jumped_to(found: Found, frame: Frame) -> Onward
     }
 }
 
-// What the block at the frame's place asks for, looked up in the table of places: alarms 14, 10, 11 and 12.
+// What the block at the frame's place asks for, looked up in the table of places: alarms 14, 10, 11 and 12. It may be asked of any table, and is right where the entries
+// ascend.
 pub fn look_up(places: &[u64], count: usize, set: Settings, frame: Frame, next: Request) -> Onward
-    requires { ⌜ (count ≤ length (now places)) × Row (take count (now places)) ⌝ }
-    ensures { λ r. ⌜ r ≡ lookedUpIn (take count (now (places .entry))) set frame next ⌝ }
+    requires { ⌜ count ≤ length (now places) ⌝ }
+    ensures found { λ r. ⌜ (Row (take count (now (places .entry))) → r ≡ lookedUpIn (take count (now (places .entry))) set frame next) ⌝ }
+    ensures form { λ r. ⌜ LooksUp set frame next r ⌝ }
 {
     match next {
         Request::On => Onward::On,

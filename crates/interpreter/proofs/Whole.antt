@@ -13,7 +13,7 @@ use Rattle.whole.proofs.Laying.{laid-nil}
 use Rattle.alarms.specs.Numbers.{badSettings, tapeTooLong, bufferTooShort, programMissing}
 use Rattle.moves.specs.Form.{headerSize, recordStart, recordLimit, rowBytes}
 use Rattle.tape.specs.Lines.{lines}
-use Rattle.places.specs.Places.{programIn}
+use Rattle.places.specs.Places.{Row, programIn}
 use Rattle.finding.specs.Finding.{findProgram}
 use Rattle.finding.specs.Finds.{Finds}
 use Rattle.reading.specs.Filling.{Readings, told, readWith, placesBehind}
@@ -62,8 +62,8 @@ module _ (tape : List ℕ) (table : List ℤ) (set : Settings) (first : ℕ) (b 
   t = taskOf tape table set first (length b)
 
   -- what was looked up in the table of places is what the walk finds
-  pub main-found : {places : List ℕ} {count : ℕ} → Lent places count tape first → {f : Found} → f ≡ programIn (set .main) (take count places) → f ≡ findProgram (set .main) (lines tape first)
-  main-found lent e = e ∙ lent .finds .programs (set .main)
+  pub main-found : {places : List ℕ} {count : ℕ} → Lent places count tape first → {f : Found} → (Row (take count places) → f ≡ programIn (set .main) (take count places)) → f ≡ findProgram (set .main) (lines tape first)
+  main-found lent e = e (lent .finds .ascends) ∙ lent .finds .programs (set .main)
 
   main-is : {f : Found} → f ≡ findProgram (set .main) (lines tape first) → {g : Found} → f ≡ g → mainRun t ≡ mainBy t g
   unfolding mainRun

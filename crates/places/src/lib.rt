@@ -1,6 +1,6 @@
 // The lent table of the places of program lines and blocks. (02, request 8: "a lent table of the places of program lines and their blocks, by program, its line first, then by number".)
 // An entry is one number: the program's number, the slot (0 for the program's line, the block's number and one more for a block) and the place on the tape, 16 bits for each of the lower two.
-// The first `count` entries ascend, so that one search finds a line, and finds a repeated number.
+// The first `count` entries ascend, so that one search finds a line, and finds a repeated number. A search may be asked of any table: it ends, and is right where the entries ascend.
 ghost use mathlib.Core.Path.{_≡_};
 ghost use mathlib.Core.List.{_++_};
 ghost use Prim.Native.Nat.{_+_, _*_, _<_, _≤_};
@@ -47,10 +47,10 @@ fn place_in(entry: u64) -> usize
     (entry % SIXTEEN_BITS) as usize
 }
 
-// How many entries have a key below `key`. Lines mostly come in ascending order: then the last entry answers at once.
+// How many entries have a key below `key`, where they ascend; of any table no more than `count`. Lines mostly come in ascending order: then the last entry answers at once.
 fn below_key(table: &[u64], count: usize, key: u64) -> usize
-    requires { ⌜ (count ≤ length (now table)) × Row (take count (now table)) ⌝ }
-    ensures { λ r. ⌜ (r ≡ below key (take count (now (table .entry)))) × (r ≤ count) ⌝ }
+    requires { ⌜ count ≤ length (now table) ⌝ }
+    ensures { λ r. ⌜ (Row (take count (now (table .entry))) → r ≡ below key (take count (now (table .entry)))) × (r ≤ count) ⌝ }
 {
     if count == 0 {
         return 0;
@@ -74,10 +74,10 @@ fn below_key(table: &[u64], count: usize, key: u64) -> usize
     low
 }
 
-// The place of the line with a key among the first `count` entries.
+// The place of the line with a key among the first `count` entries, where they ascend. So it is with the two that follow.
 pub fn find(table: &[u64], count: usize, key: u64) -> Found
-    requires { ⌜ (count ≤ length (now table)) × Row (take count (now table)) ⌝ }
-    ensures { λ r. ⌜ r ≡ lookedUp key (take count (now (table .entry))) ⌝ }
+    requires { ⌜ count ≤ length (now table) ⌝ }
+    ensures { λ r. ⌜ (Row (take count (now (table .entry))) → r ≡ lookedUp key (take count (now (table .entry)))) ⌝ }
 {
     let at = below_key(table, count, key);
     if at >= count {
@@ -93,8 +93,8 @@ pub fn find(table: &[u64], count: usize, key: u64) -> Found
 
 // The place of a program's line.
 pub fn find_program(table: &[u64], count: usize, number: u32) -> Found
-    requires { ⌜ (count ≤ length (now table)) × Row (take count (now table)) ⌝ }
-    ensures { λ r. ⌜ r ≡ programIn number (take count (now (table .entry))) ⌝ }
+    requires { ⌜ count ≤ length (now table) ⌝ }
+    ensures { λ r. ⌜ (Row (take count (now (table .entry))) → r ≡ programIn number (take count (now (table .entry)))) ⌝ }
 {
     let key = key_of(number, 0);
     find(table, count, key)
@@ -102,8 +102,8 @@ pub fn find_program(table: &[u64], count: usize, number: u32) -> Found
 
 // The place of a block of a program. A number that no slot has room for would give another block's key.
 pub fn find_block(table: &[u64], count: usize, program: u32, number: u32) -> Found
-    requires { ⌜ (count ≤ length (now table)) × Row (take count (now table)) ⌝ }
-    ensures { λ r. ⌜ r ≡ blockIn program number (take count (now (table .entry))) ⌝ }
+    requires { ⌜ count ≤ length (now table) ⌝ }
+    ensures { λ r. ⌜ (Row (take count (now (table .entry))) → r ≡ blockIn program number (take count (now (table .entry)))) ⌝ }
 {
     if number >= HIGHEST_SLOT {
         return Found::Nowhere;

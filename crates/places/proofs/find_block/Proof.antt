@@ -10,7 +10,7 @@ use Rattle.places.proofs.find_block.Tie as tie
 
 returns : tie.Need-returns
 unfolding blockIn
-returns c = rw (le-ltb (c .before .before .args .number) highestSlot (c .if1 .taken))
+returns c = λ _. rw (le-ltb (c .before .before .args .number) highestSlot (c .if1 .taken))
 
 add-slot : tie.Need-add-slot
 add-slot c = search needs
@@ -25,7 +25,7 @@ returns-2 : tie.Need-returns-2
 unfolding blockIn
 returns-2 c =
     let a = c .before .before .before .before .args in
-    c .find .ensures ∙ ap (λ (k : ℕ). lookedUp k (take (a .count) (a .table .now))) (c .before .key-of .ensures) ∙ rw (lt-ltb (a .number) highestSlot (c .before .before .if1 .left))
+    λ r. c .find .ensures r ∙ ap (λ (k : ℕ). lookedUp k (take (a .count) (a .table .now))) (c .before .key-of .ensures) ∙ rw (lt-ltb (a .number) highestSlot (c .before .before .if1 .left))
 
 pub find-block-spec : {M : Type 1} → statement M
 find-block-spec = tie.close (tie.spec returns add-slot key-of-requires find-requires returns-2)

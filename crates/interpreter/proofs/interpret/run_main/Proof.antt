@@ -12,7 +12,7 @@ returns c =
     main-missing (now (a .tape)) (now (a .table)) (a .set) (a .first) (now (a .buf)) (main-found (now (a .tape)) (now (a .table)) (a .set) (a .first) (now (a .buf)) (s .pre .0) (c .before .before .find-program .ensures)) (c .enum-told .given .1)
 
 find-program-requires : tie.Need-find-program-requires
-find-program-requires c κs = let l = c .before .before .before .pre .0 in (l .filled, l .finds .ascends)
+find-program-requires c κs = c .before .before .before .pre .0 .filled
 
 run-program-requires : tie.Need-run-program-requires
 run-program-requires c κs =

@@ -19,14 +19,14 @@ returns : tie.Need-returns
 returns c =
     let s = c .before .before .before .before in
     let a = s .args in
-    jump-refused (looked s) (a .frame) (a .run) (a .after) (c .before .alarm-by .ensures ∙ ap alarmBy (c .before .before .look-up .ensures)) (c .if1 .taken)
+    jump-refused (looked s) (a .frame) (a .run) (a .after) (c .before .alarm-by .ensures ∙ ap alarmBy (c .before .before .look-up .ensures .0 (s .pre .1))) (c .if1 .taken)
 
 returns-2 : tie.Need-returns-2
 returns-2 c =
     let e = c .before .before in
     let s = e .before .before .before .before in
     let a = s .args in
-    jump-went (looked s) (a .frame) (a .run) (a .after) (e .before .before .look-up .ensures) (sym (e .before .alarm-by .ensures ∙ ap alarmBy (e .before .before .look-up .ensures)) ∙ e .if1 .left)
+    jump-went (looked s) (a .frame) (a .run) (a .after) (e .before .before .look-up .ensures .0 (s .pre .1)) (sym (e .before .alarm-by .ensures ∙ ap alarmBy (e .before .before .look-up .ensures .0 (s .pre .1))) ∙ e .if1 .left)
 
 pub do-jump-spec : {M : Type 1} → statement M
 do-jump-spec = tie.close (tie.spec (λ c κs. search needs) (λ c κs. search needs) returns (λ c. search needs) returns-2)

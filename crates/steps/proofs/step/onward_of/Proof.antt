@@ -18,7 +18,7 @@ look-up-requires c κs = search needs
 
 returns-2 : tie.Need-returns-2
 unfolding onwardIn
-returns-2 c = c .look-up .ensures ∙ rw (c .before .request-of .ensures, ne-eqb _ _ (c .before .before .if1 .left))
+returns-2 c = c .look-up .ensures .0 (c .before .before .before .before .pre .1) ∙ rw (c .before .request-of .ensures, ne-eqb _ _ (c .before .before .if1 .left))
 
 pub onward-of-spec : {M : Type 1} → statement M
 onward-of-spec = tie.close (tie.spec returns request-of-requires look-up-requires returns-2)
