@@ -47,7 +47,7 @@ pub fn run_block(
         Verdict::Goes(going) => {
             let settled = going.settled;
             let deed = going.deed;
-            let count = writing::put_writes(buf, k, settled, b, deed, going.count as usize, origin);
+            let count = putting::put_writes(buf, k, settled, b, deed, going.count as usize, origin);
             let state = writing::done_of(settled, deed);
             BlockOutcome::Done(BlockDone { state, count })
         }

@@ -2,6 +2,3 @@
 pub mod Rows
 pub mod Matched
 pub mod Chain
-pub mod Cursors
-pub mod Opening
-pub mod Writing

@@ -1,4 +1,2 @@
 -- The definitions that the contracts of this crate cite, and those of the crates built on it.
 pub mod Writes
-pub mod Cursor
-pub mod Opened

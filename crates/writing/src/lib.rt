@@ -1,21 +1,11 @@
-// The records of a block, and the state after it. (01: "Records of a block, in order: speed if S, tool if T, M of group 0, M of group 3, motion or dwell, then M00 or M30. M17 gives none.")
-// The room for all of them was asked for before (alarm 20). cursor.rt hands the records out, and one loop writes them.
-pub mod cursor;
-
-use crate::cursor::Cursor;
+// The records of a block in their order, how many they are, and the state after it. (01: "Records of a block, in order: speed if S, tool if T, M of group 0, M of group 3, motion or dwell, then
+// M00 or M30. M17 gives none.") `handing` hands them out one after the other, and `putting` writes them.
 use block::words::Block;
 use deeds::deed::Deed;
-use moves::record::Origin;
 use state::modal::State;
 ghost use mathlib.Core.Path.{_≡_};
-ghost use Prim.Native.Nat.{_+_, _*_, _≤_};
-ghost use lib.ListN.{length};
-ghost use Rattle.whole.specs.Bytes.{laid};
-ghost use Rattle.moves.specs.Form.{recordSize, recordStart, rowFrom};
-ghost use Rattle.asking.specs.Judge.{doing};
-ghost use Rattle.deeds.specs.Known.{Right, Known};
-ghost use Rattle.writing.specs.Writes.{numberIf, moved, done, stops, writes, otherCount};
-ghost use Rattle.writing.specs.Cursor.{restOf, Sound};
+ghost use Prim.Native.Nat.{_≤_};
+ghost use Rattle.writing.specs.Writes.{numberIf, moved, done, stops, otherCount};
 
 // The groups of the M words: M03 M04 M05; M08 M09; M00 M17 M30.
 const SPINDLE: usize = block::words::SPINDLE;
@@ -66,7 +56,7 @@ pub fn done_of(s: State, d: Deed) -> State
 }
 
 // Whether there is an M00 or an M30.
-fn stops(b: Block) -> bool
+pub fn stops(b: Block) -> bool
     ensures { λ r. ⌜ r ≡ stops b ⌝ }
 {
     let code = block::words::m_in(b, FLOW);
@@ -89,46 +79,4 @@ pub fn other_count(b: Block) -> u32
     let coolant = number_if(block::words::has(b, COOLANT));
     let stop = number_if(stops(b));
     speed + tool + (spindle + coolant) + stop
-}
-
-// Writes all that is left of a block, its next record's first byte at `first`: the one loop that writes, whatever the record. What is handed out knows nothing of its block: that is
-// put on here.
-fn put_rest(buf: &mut [u8], first: usize, c: Cursor, origin: Origin)
-    requires { ⌜ Sound (c .plan) (c .due) × (first + recordSize * length (restOf (c .plan) (c .due)) ≤ length (now buf)) ⌝ }
-    ensures { λ _. ⌜ now (buf .exit) ≡ laid (now (buf .entry)) first (rowFrom origin (restOf (c .plan) (c .due))) ⌝ }
-{
-    let plan = c.plan;
-    let mut due = c.due;
-    let mut at = first;
-    while !cursor::is_over(plan, due) {
-        let handed = cursor::next(plan, due);
-        let record = handed.record;
-        moves::list::put_record(&mut buf[at..], record, origin);
-        due = handed.rest;
-        at += moves::RECORD_SIZE;
-    }
-}
-
-// Writes the records of a block, of which `count` are its deed's, from number k on, each with the program and the block that it came from, and answers the number of the next record.
-pub fn put_writes(
-    buf: &mut [u8],
-    k: usize,
-    s: State,
-    b: Block,
-    d: Deed,
-    count: usize,
-    origin: Origin,
-) -> usize
-    requires { ⌜ Right d × Known d × (count ≡ length (doing d)) × (recordStart (k + length (writes s b d)) ≤ length (now buf)) ⌝ }
-    ensures { λ r. ⌜ (r ≡ k + length (writes s b d)) × (now (buf .exit) ≡ laid (now (buf .entry)) (recordStart k) (rowFrom origin (writes s b d))) ⌝ }
-{
-    let total = count + other_count(b) as usize;
-    if total == 0 {
-        return k;
-    }
-    // 01: "written into the room after the header".
-    let first = moves::HEADER_SIZE + moves::RECORD_SIZE * k;
-    let opened = cursor::open_block(s, b, d);
-    put_rest(buf, first, opened, origin);
-    k + total
 }

@@ -1,0 +1,2 @@
+-- The laws of a block that is opened.
+pub mod Opening

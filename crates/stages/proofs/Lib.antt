@@ -1,0 +1,2 @@
+-- The laws of what is due.
+pub mod Cursors
