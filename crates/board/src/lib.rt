@@ -5,8 +5,9 @@ use answers::Answer;
 ghost use mathlib.Core.Path.{_≡_};
 ghost use Prim.Native.Nat.{_+_, _*_, _<_};
 ghost use lib.ListN.{length};
-ghost use Rattle.readback.specs.Lists.{judged, readOf, readJudged};
-ghost use Rattle.readback.specs.Numbers.{refusalOf, answerOf, numbersAfter};
+ghost use Rattle.judging.specs.Judging.{judged};
+ghost use Rattle.readback.specs.Lists.{readOf, readJudged};
+ghost use Rattle.numbered.specs.Numbers.{refusalOf, answerOf, numbersAfter};
 ghost use Rattle.board.specs.Door.{answerAt, placesAt, bufferAt, Fits, Packed};
 
 // Alarm, place and count as one number.
@@ -59,7 +60,7 @@ pub extern "C" fn tm02_read(list: &[u8], k: usize, numbers: &mut [i64]) -> u32
     ensures result { λ r. ⌜ r ≡ answerOf (readOf (now (list .entry)) k) (length (now (numbers .entry))) ⌝ }
     ensures lent { λ _. ⌜ now (numbers .exit) ≡ numbersAfter (readOf (now (list .entry)) k) (now (numbers .entry)) ⌝ }
 {
-    readback::numbered::read(list, k, numbers)
+    numbered::read(list, k, numbers)
 }
 
 // Whether a list is refused: 0, or why.
@@ -67,7 +68,7 @@ pub extern "C" fn tm02_read(list: &[u8], k: usize, numbers: &mut [i64]) -> u32
 pub extern "C" fn tm02_judge(list: &[u8]) -> u32
     ensures { λ r. ⌜ r ≡ refusalOf (judged (now (list .entry))) ⌝ }
 {
-    readback::numbered::judge(list)
+    numbered::judge(list)
 }
 
 // As `tm02_read`, of a list that `tm02_judge` has not refused, and which is not judged again. Of other bytes it gives what stands there.
@@ -76,5 +77,5 @@ pub extern "C" fn tm02_read_judged(list: &[u8], k: usize, numbers: &mut [i64]) -
     ensures result { λ r. ⌜ r ≡ answerOf (readJudged (now (list .entry)) k) (length (now (numbers .entry))) ⌝ }
     ensures lent { λ _. ⌜ now (numbers .exit) ≡ numbersAfter (readJudged (now (list .entry)) k) (now (numbers .entry)) ⌝ }
 {
-    readback::numbered::read_judged(list, k, numbers)
+    numbered::read_judged(list, k, numbers)
 }

@@ -52,7 +52,7 @@ fn put_records(list: &[u8], count: usize, out: &mut [u8], at: usize) -> usize
     let mut next = at;
     let mut k = 0;
     while k < count {
-        let listed = readback::record::listed_at(list, k);
+        let listed = fields::listed_at(list, k);
         let what = listed.what;
         let origin = listed.origin;
         next = put_record(out, next, what, origin);

@@ -2,12 +2,12 @@
 // the block that it came from, or `REFUSED` and why; and at the end what the reader's door answers where one number less than a record has is lent.
 // The file `stdin` holds them, a line for each: a name, a space, the number of the record, a space, and the bytes in hexadecimal digits; `*` behind them repeats the last record until there are
 // as many as the header counts. `stdout` holds what 02 says of each, by a separate reading of it.
+use lawful::versions::Version;
 use libc::STDIN_FILENO;
 use libc::STDOUT_FILENO;
 use moves::record::Record;
 use readback::read::ReadBack;
 use readback::read::Source;
-use readback::versions::Version;
 ghost use Prim.Native.Nat.{_<_, _≤_};
 ghost use lib.ListN.{length};
 
@@ -57,7 +57,7 @@ fn decode(text: &[u8], list: &mut [u8; LONGEST]) -> usize
 
 // The version that a header names, for the size of the records that are repeated.
 fn version_of(list: &[u8; LONGEST]) -> Version {
-    if wide(list[moves::AT_VERSION]) == readback::versions::FIRST_VERSION {
+    if wide(list[moves::AT_VERSION]) == lawful::versions::FIRST_VERSION {
         return Version::One;
     }
     Version::Two
@@ -70,8 +70,8 @@ fn repeat(list: &mut [u8; LONGEST], from: usize) -> usize
 {
     let count = wide(list[moves::AT_COUNT]) + 256 * wide(list[moves::AT_COUNT + 1]);
     let version = version_of(list);
-    let end = readback::versions::record_start(version, count);
-    let size = readback::versions::record_size(version);
+    let end = lawful::versions::record_start(version, count);
+    let size = lawful::versions::record_size(version);
     let mut n = from;
     while n < end {
         if n >= LONGEST {
@@ -148,7 +148,7 @@ fn show(list: &[u8], k: usize) {
         }
     }
     let mut six = [0i64; 6];
-    let few = readback::numbered::read(list, k, &mut six);
+    let few = numbered::read(list, k, &mut six);
     io::write_all(STDOUT_FILENO, b" ");
     io::print_decimal(STDOUT_FILENO, few as u64);
     io::write_all(STDOUT_FILENO, b"\n");

@@ -12,7 +12,7 @@ use Rattle.whole.proofs.Integers.{whole, lt-false}
 use Rattle.whole.proofs.Positions.{in-range, in-table}
 use Rattle.moves.specs.Kinds.{isArc, isCentre, inTurn}
 use Rattle.moves.specs.declared.record.Record.{Record}
-use Rattle.readback.specs.Right.{isKnown, flagsRight, inThreeTables, placeRight, isRight, rightFrom, rightRow}
+use Rattle.lawful.specs.Right.{isKnown, flagsRight, inThreeTables, placeRight, isRight, rightFrom, rightRow}
 use Rattle.codes.specs.declared.meaning.Motion.the-variants as motion
 use Rattle.acts.specs.declared.acting.Kept.{Kept}
 use Rattle.acts.specs.declared.acting.Kept.the-variants as kept

@@ -7,7 +7,7 @@ use Prim.Native.Nat.{ℕ, _-_, _<_}
 use lib.IntN.{ℤ}
 use lib.ListN.{length, take}
 use Rattle.moves.specs.declared.record.Record.{Record}
-use Rattle.readback.specs.Right.{rightFrom, rightRow, Lawful}
+use Rattle.lawful.specs.Right.{rightFrom, rightRow, Lawful}
 use Rattle.readback.specs.Laws.{WrittenForm}
 use Rattle.readback.proofs.Laws.{written-is-read}
 use Rattle.settings.specs.Known.{InRange}

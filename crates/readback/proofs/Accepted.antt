@@ -10,16 +10,17 @@ use lib.ListN.{length}
 use borrow.Author.Tests.{ltb-true, ltb-false, lt-ltb, le-ltb, eqb-true}
 use Rattle.moves.specs.Form.{headerSize, version}
 use Rattle.moves.specs.Reading.{versionIn, countIn}
-use Rattle.readback.specs.Refusals.{badMark, badVersion, badLength, badRecord, badIndex}
-use Rattle.readback.specs.Versions.{firstVersion, numberOf, sizeIn, limitIn, startIn}
-use Rattle.readback.specs.Lists.{markWrong, lengthWrong, recordsWrong, judgedAs, judged, foundAt, pickedFrom, readOf, versionNamed, heldBy, readAs, readJudged}
-use Rattle.readback.specs.declared.versions.Version.{Version}
-use Rattle.readback.specs.declared.versions.Version.the-variants.{One, Two}
-use Rattle.readback.specs.declared.judging.Judged.{Judged}
-use Rattle.readback.specs.declared.judging.Judged.the-variants.{Good, Refused}
+use Rattle.judging.specs.Refusals.{badMark, badVersion, badLength, badRecord, badIndex}
+use Rattle.lawful.specs.Versions.{firstVersion, numberOf, sizeIn, limitIn, startIn}
+use Rattle.judging.specs.Judging.{markWrong, lengthWrong, recordsWrong, judgedAs, judged, versionNamed}
+use Rattle.readback.specs.Lists.{foundAt, pickedFrom, readOf, heldBy, readAs, readJudged}
+use Rattle.lawful.specs.declared.versions.Version.{Version}
+use Rattle.lawful.specs.declared.versions.Version.the-variants.{One, Two}
+use Rattle.judging.specs.declared.Judged.{Judged}
+use Rattle.judging.specs.declared.Judged.the-variants.{Good, Refused}
 use Rattle.readback.specs.declared.read.ReadBack.{ReadBack}
 use Rattle.readback.specs.declared.read.ReadBack.the-variants as read
-use Rattle.readback.proofs.Judges.{right-length, right-count, within, named-first, named-second}
+use Rattle.judging.proofs.Judges.{right-length, right-count, within, named-first, named-second}
 
 -- no test refuses it
 pub record Passed (v : Version) (b : List ℕ) (n : ℕ) : Type 0 where

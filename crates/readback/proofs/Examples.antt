@@ -13,12 +13,13 @@ use Rattle.moves.specs.Kinds.{flagged, plain, rapid, feed, miscellaneous}
 use Rattle.moves.specs.Reading.{recordIn, originIn}
 use Rattle.moves.specs.declared.record.Origin.{Origin}
 use Rattle.moves.specs.declared.record.Listed.{Listed}
-use Rattle.readback.specs.Refusals.{badMark, badVersion, badLength, badIndex}
-use Rattle.readback.specs.Right.{flagOf, placeRight, isRight, rightFrom}
-use Rattle.readback.specs.Lists.{markWrong, lengthWrong, recordsEvery, sparesZero, recordsWrong, judgedAs, judged, foundAt, readOf}
+use Rattle.judging.specs.Refusals.{badMark, badVersion, badLength, badIndex}
+use Rattle.lawful.specs.Right.{flagOf, placeRight, isRight, rightFrom}
+use Rattle.judging.specs.Judging.{markWrong, lengthWrong, recordsEvery, sparesZero, recordsWrong, judgedAs, judged}
+use Rattle.readback.specs.Lists.{foundAt, readOf}
 use Rattle.readback.specs.Laws.{firstHeader, firstRow}
-use Rattle.readback.specs.declared.versions.Version.the-variants.{One, Two}
-use Rattle.readback.specs.declared.judging.Judged.the-variants.{Good, Refused}
+use Rattle.lawful.specs.declared.versions.Version.the-variants.{One, Two}
+use Rattle.judging.specs.declared.Judged.the-variants.{Good, Refused}
 use Rattle.readback.specs.declared.read.Source.the-variants.{From, Untold}
 use Rattle.readback.specs.declared.read.ReadBack.the-variants as read
 

@@ -16,19 +16,20 @@ use Rattle.moves.specs.declared.record.Record.{Record}
 use Rattle.moves.specs.declared.record.Listed.{Listed}
 use Rattle.moves.proofs.Writing.{length-what}
 use Rattle.moves.proofs.OneReading.{length-record, length-row, what-read, row-read}
-use Rattle.readback.specs.Refusals.{badIndex}
-use Rattle.readback.specs.Right.{rightRow, Lawful, FirstLawful}
-use Rattle.readback.specs.Versions.{firstVersion, firstRecordSize, numberOf, sizeIn, limitIn, startIn}
-use Rattle.readback.specs.Lists.{markDiffers, markWrong, lengthWrong, recordsEvery, spareZero, sparesZero, recordsWrong, judgedAs, judged, foundAt, sourceIn, readOf}
+use Rattle.judging.specs.Refusals.{badIndex}
+use Rattle.lawful.specs.Right.{rightRow, Lawful, FirstLawful}
+use Rattle.lawful.specs.Versions.{firstVersion, firstRecordSize, numberOf, sizeIn, limitIn, startIn}
+use Rattle.judging.specs.Judging.{markDiffers, markWrong, lengthWrong, recordsEvery, spareZero, sparesZero, recordsWrong, judgedAs, judged}
+use Rattle.readback.specs.Lists.{foundAt, sourceIn, readOf}
 use Rattle.readback.specs.Laws.{WrittenForm, picked, ReadsBack, WrittenIsRead, Bytes, ReadIsWritten, firstHeader, firstRow, FirstForm, firstPicked, FirstReadsBack, FirstIsRead, firstIn, FirstIsForm, OnceJudged}
-use Rattle.readback.specs.declared.versions.Version.{Version}
-use Rattle.readback.specs.declared.versions.Version.the-variants.{One, Two}
-use Rattle.readback.specs.declared.judging.Judged.the-variants.{Good}
+use Rattle.lawful.specs.declared.versions.Version.{Version}
+use Rattle.lawful.specs.declared.versions.Version.the-variants.{One, Two}
+use Rattle.judging.specs.declared.Judged.the-variants.{Good}
 use Rattle.readback.specs.declared.read.ReadBack.{ReadBack}
 use Rattle.readback.specs.declared.read.ReadBack.the-variants as read
-use Rattle.readback.proofs.Judges.{none-true, both-true}
+use Rattle.judging.proofs.Judges.{none-true, both-true}
 use Rattle.readback.proofs.Accepted.{passed, good-length, good-count, every-k, once-judged}
-use Rattle.readback.proofs.Taking.{two-value}
+use Rattle.fields.proofs.Taking.{two-value}
 use Rattle.readback.proofs.Written.{row-length, row-fits, row-back, every-what, first-length, first-fits, first-back, bytes-drop}
 
 -- ---- the header of a version

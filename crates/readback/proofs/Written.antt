@@ -18,10 +18,10 @@ use Rattle.whole.proofs.LittleEndian.{AllBytes, write-back}
 use Rattle.moves.specs.Form.{recordSize, programAt, blockAt, whatBytes, originBytes, recordBytes, rowBytes, whats, Fitting, FittingOrigin, AllFitting, AllListed}
 use Rattle.moves.specs.Reading.{numberAt, recordIn, originIn, listedIn, rowIn}
 use Rattle.moves.specs.declared.record.Record.{Record}
-use Rattle.readback.specs.Versions.{firstRecordSize}
-use Rattle.readback.specs.Lists.{recordsEvery, spareZero, sparesZero}
+use Rattle.lawful.specs.Versions.{firstRecordSize}
+use Rattle.judging.specs.Judging.{recordsEvery, spareZero, sparesZero}
 use Rattle.readback.specs.Laws.{Bytes, firstRow}
-use Rattle.readback.proofs.Judges.{both-true}
+use Rattle.judging.proofs.Judges.{both-true}
 
 -- ---- the sign
 below : (z : ℤ) (u : ℕ) → z ≡ pos u -ℤ pos (2 ^ 32) → u < 2 ^ 32 → wordOf z ≡ u

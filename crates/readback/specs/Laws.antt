@@ -10,13 +10,14 @@ use Rattle.moves.specs.Form.{headerSize, mark, whatBytes, listBytes}
 use Rattle.moves.specs.Reading.{countIn, listIn}
 use Rattle.moves.specs.declared.record.Record.{Record}
 use Rattle.moves.specs.declared.record.Listed.{Listed}
-use Rattle.readback.specs.Refusals.{badIndex}
-use Rattle.readback.specs.Right.{Lawful, FirstLawful}
-use Rattle.readback.specs.Versions.{firstVersion, firstRecordSize}
-use Rattle.readback.specs.Lists.{recordsEvery, judged, readOf, readJudged}
-use Rattle.readback.specs.declared.versions.Version.{Version}
-use Rattle.readback.specs.declared.versions.Version.the-variants.{One, Two}
-use Rattle.readback.specs.declared.judging.Judged.the-variants.{Good}
+use Rattle.judging.specs.Refusals.{badIndex}
+use Rattle.lawful.specs.Right.{Lawful, FirstLawful}
+use Rattle.lawful.specs.Versions.{firstVersion, firstRecordSize}
+use Rattle.judging.specs.Judging.{recordsEvery, judged}
+use Rattle.readback.specs.Lists.{readOf, readJudged}
+use Rattle.lawful.specs.declared.versions.Version.{Version}
+use Rattle.lawful.specs.declared.versions.Version.the-variants.{One, Two}
+use Rattle.judging.specs.declared.Judged.the-variants.{Good}
 use Rattle.readback.specs.declared.read.Source.the-variants.{From, Untold}
 use Rattle.readback.specs.declared.read.ReadBack.{ReadBack}
 use Rattle.readback.specs.declared.read.ReadBack.the-variants.{Found, Refused}

@@ -1,7 +1,3 @@
 -- The definitions that the contracts of this crate cite, and those of the crates built on it.
-pub mod Versions
-pub mod Right
-pub mod Refusals
 pub mod Lists
-pub mod Numbers
 pub mod Laws

@@ -1,13 +1,13 @@
 // Record k of a list, or a refusal. (02: "given bytes, either record k or a refusal".)
-use crate::judging::Judged;
-use crate::versions::Version;
+use judging::Judged;
+use lawful::versions::Version;
 use moves::record::Origin;
 use moves::record::Record;
 ghost use mathlib.Core.Path.{_≡_};
 ghost use Prim.Native.Nat.{_+_, _≤_};
 ghost use lib.ListN.{length};
 ghost use Rattle.moves.specs.Form.{headerSize};
-ghost use Rattle.readback.specs.Versions.{sizeIn, startIn};
+ghost use Rattle.lawful.specs.Versions.{sizeIn, startIn};
 ghost use Rattle.readback.specs.Lists.{foundAt, readOf, readAs, readJudged};
 
 // The block that a record came from. A list of version 1 does not tell it, which is not the same as program 0 and block 0.
@@ -27,9 +27,9 @@ fn found_at(list: &[u8], v: Version, k: usize) -> ReadBack
     ensures { λ r. ⌜ r ≡ foundAt v (now (list .entry)) k ⌝ }
 {
     match v {
-        Version::One => ReadBack::Found(crate::record::first_at(list, k), Source::Untold),
+        Version::One => ReadBack::Found(fields::first_at(list, k), Source::Untold),
         Version::Two => {
-            let listed = crate::record::listed_at(list, k);
+            let listed = fields::listed_at(list, k);
             let what = listed.what;
             let origin = listed.origin;
             ReadBack::Found(what, Source::From(origin))
@@ -42,9 +42,9 @@ fn read_as(list: &[u8], v: Version, k: usize) -> ReadBack
     requires { ⌜ headerSize ≤ length (now list) ⌝ }
     ensures { λ r. ⌜ r ≡ readAs v (now (list .entry)) k ⌝ }
 {
-    let held = (list.len() - moves::HEADER_SIZE) / crate::versions::record_size(v);
+    let held = (list.len() - moves::HEADER_SIZE) / lawful::versions::record_size(v);
     if k >= held {
-        return ReadBack::Refused(crate::BAD_INDEX);
+        return ReadBack::Refused(judging::BAD_INDEX);
     }
     found_at(list, v, k)
 }
@@ -54,21 +54,21 @@ pub fn read_judged(list: &[u8], k: usize) -> ReadBack
     ensures { λ r. ⌜ r ≡ readJudged (now (list .entry)) k ⌝ }
 {
     if list.len() < moves::HEADER_SIZE {
-        return ReadBack::Refused(crate::BAD_INDEX);
+        return ReadBack::Refused(judging::BAD_INDEX);
     }
-    read_as(list, crate::judging::version_named(list), k)
+    read_as(list, judging::version_named(list), k)
 }
 
 // Record number k, from 0, of any bytes, or the first refusal. The whole list is judged at every call.
 pub fn read_record(list: &[u8], k: usize) -> ReadBack
     ensures { λ r. ⌜ r ≡ readOf (now (list .entry)) k ⌝ }
 {
-    let judged = crate::judging::judge_list(list);
+    let judged = judging::judge_list(list);
     match judged {
         Judged::Refused(why) => ReadBack::Refused(why),
         Judged::Good(v, count) => {
             if k >= count {
-                return ReadBack::Refused(crate::BAD_INDEX);
+                return ReadBack::Refused(judging::BAD_INDEX);
             }
             found_at(list, v, k)
         }

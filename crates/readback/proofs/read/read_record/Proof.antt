@@ -3,8 +3,8 @@ use mathlib.Core.Path.{_≡_, sym, _∙_}
 use native.Mathlib.Omega.{arith}
 use denote.Ref.{now}
 use borrow.Author.Needs.{needs}
-use Rattle.readback.specs.Lists.{judged}
-use Rattle.readback.specs.declared.judging.Judged.the-variants as judging
+use Rattle.judging.specs.Judging.{judged}
+use Rattle.judging.specs.declared.Judged.the-variants as judging
 use Rattle.readback.proofs.Accepted.{has, found, no-such, not-read}
 use Rattle.readback.proofs.read.read_record.Statement.{statement}
 use Rattle.readback.proofs.read.read_record.Tie as tie

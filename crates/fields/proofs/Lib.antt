@@ -1,0 +1,2 @@
+-- The laws of the fields of a list.
+pub mod Taking

@@ -1,0 +1,2 @@
+-- The laws of a list judged.
+pub mod Judges
