@@ -36,7 +36,7 @@ use Rattle.state.specs.declared.request.Request.the-variants as asks
 use Rattle.deeds.specs.Deed.{hasPath, hasCentre, straightIf, roundOf, roundIf, moveOf, deedOf}
 use Rattle.deeds.specs.declared.deed.Deed.{Deed}
 use Rattle.deeds.specs.declared.deed.Deed.the-variants.{Nothing, Nowhere as Aimless, Dwell, Straight, Round, Cycle}
-use Rattle.deeds.specs.declared.deed.Sending.{Sending}
+use Rattle.scaling.specs.declared.Sending.{Sending}
 use Rattle.asking.specs.Judge.{refused as refusedCycle, ofRecords, asksOf, feedWrong, roomWrong, alarmOf, doing}
 use Rattle.asking.specs.declared.Asked.{Asked}
 use Rattle.asking.specs.declared.Asks.{Asks}

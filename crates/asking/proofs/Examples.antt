@@ -20,9 +20,10 @@ use Rattle.arcs.specs.Arcs.{arcOf}
 use Rattle.state.specs.declared.modal.State.{State}
 use Rattle.turning.specs.Turning.{tooShort}
 use Rattle.deeds.specs.declared.deed.Deed.the-variants as deed
-use Rattle.deeds.specs.declared.deed.Sending.{Sending}
+use Rattle.scaling.specs.declared.Sending.{Sending}
 use Rattle.asking.specs.declared.Asked.{Asked}
-use Rattle.deeds.specs.Deed.{hasPath, hasCentre, isFacing, turningOf, grooveOf, straightIf, roundOf, roundIf, moveOf, deedOf}
+use Rattle.deeds.specs.Deed.{hasPath, hasCentre, straightIf, roundOf, roundIf, moveOf, deedOf}
+use Rattle.scaling.specs.Scaled.{isFacing, turningOf, grooveOf}
 use Rattle.asking.specs.Judge.{asksOf, alarmOf}
 use Rattle.moves.specs.Kinds.{rapid, feed, thread}
 use Rattle.moves.specs.declared.record.Record.{Record}

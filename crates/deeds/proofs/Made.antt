@@ -30,9 +30,11 @@ use Rattle.cycles.specs.declared.Cycle as cycles
 use Rattle.cycles.specs.declared.Cycle.the-variants.{Turning, Threading, Grooving, Drilling}
 use Rattle.deeds.specs.declared.deed.Deed.{Deed}
 use Rattle.deeds.specs.declared.deed.Deed.the-variants.{Nothing, Nowhere, Dwell, Straight, Round, Cycle}
-use Rattle.deeds.specs.declared.deed.Sending.{Sending}
-use Rattle.deeds.specs.Deed.{hasPath, hasCentre, isFacing, dWord, turningOf, xBare, zBare, emptyCuts, threadOf, grooveOf, boreOf, straightIf, startSpot, endSpot, centreWords, roundOf, roundIf, moveOf, deedOf}
-use Rattle.deeds.specs.Known.{Small, Centred, Curved, Known}
+use Rattle.scaling.specs.declared.Sending.{Sending}
+use Rattle.deeds.specs.Deed.{hasPath, hasCentre, straightIf, startSpot, endSpot, centreWords, roundOf, roundIf, moveOf, deedOf}
+use Rattle.scaling.specs.Scaled.{isFacing, dWord, turningOf, xBare, zBare, emptyCuts, threadOf, grooveOf, boreOf}
+use Rattle.scaling.specs.Known.{Small}
+use Rattle.deeds.specs.Known.{Centred, Curved, Known}
 
 -- what is known of a sending
 pub record Sends (s : Sending) : Type 0 where

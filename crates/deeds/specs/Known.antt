@@ -1,7 +1,7 @@
 -- What is known of a deed and of the block that gave it. It serves contracts and proofs.
 use mathlib.Core.Path.{_≡_}
 use mathlib.Core.Bool.{false}
-use Prim.Native.Nat.{ℕ, _<_, _^_}
+use Prim.Native.Nat.{_<_, _^_}
 use lib.IntN.{ℤ, pos, _*ℤ_}
 use lib.Signed.{_≤ℤ_}
 use mir.Syntax.{w32}
@@ -15,15 +15,11 @@ use Rattle.arcs.specs.Arcs.{uneven}
 use Rattle.arcs.specs.Known.{InReach, LimitsInReach, Central}
 use Rattle.cycles.specs.Cycle as cycle
 use Rattle.cycles.specs.Known as cycles
-use Rattle.deeds.specs.Deed.{dWord, startSpot, centreWords}
+use Rattle.deeds.specs.Deed.{startSpot, centreWords}
 use Rattle.deeds.specs.declared.deed.Deed.{Deed}
 use Rattle.deeds.specs.declared.deed.Deed.the-variants.{Nothing, Nowhere, Dwell, Straight, Round, Cycle}
 use Rattle.deeds.specs.declared.deed.Round as rounds
-use Rattle.deeds.specs.declared.deed.Sending.{Sending}
-
--- the D words of a block that was read
-pub record Small (b : Block) : Type 0 where
-  pub each : (i : ℕ) → i < 10 → dWord b i < 32_768
+use Rattle.scaling.specs.declared.Sending.{Sending}
 
 -- the I and K words of a block that was read, and where the axes stand: all in the table's range
 abbrev pub Centred : Block → Sending → Type 0

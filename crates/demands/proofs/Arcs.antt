@@ -34,10 +34,10 @@ use Rattle.state.specs.Target.{offsetOf}
 use Rattle.state.specs.declared.modal.State.{State}
 use Rattle.deeds.specs.Deed.{hasPath, deedOf}
 use Rattle.deeds.specs.Known.{Right}
-use Rattle.deeds.specs.Wanted.{arcWanted}
+use Rattle.scaling.specs.Wanted.{arcWanted}
 use Rattle.deeds.specs.declared.deed.Deed.{Deed}
 use Rattle.deeds.specs.declared.deed.Deed.the-variants as deed
-use Rattle.deeds.specs.declared.deed.Sending.{Sending}
+use Rattle.scaling.specs.declared.Sending.{Sending}
 use Rattle.deeds.proofs.Made.{Starts, starts}
 use Rattle.deeds.proofs.Wanted.{is-arc-wanted}
 use Rattle.asking.specs.Judge.{asksOf, doing}

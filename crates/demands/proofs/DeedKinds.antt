@@ -30,10 +30,11 @@ use Rattle.drilling.proofs.Each.{drilling-every}
 use Rattle.cycles.specs.Cycle.{wrong, records}
 use Rattle.cycles.specs.declared.Cycle.{Cycle}
 use Rattle.cycles.specs.declared.Cycle.the-variants as cycle
-use Rattle.deeds.specs.Deed.{hasPath, hasCentre, dWord, straightIf, roundIf, moveOf, deedOf}
+use Rattle.deeds.specs.Deed.{hasPath, hasCentre, straightIf, roundIf, moveOf, deedOf}
+use Rattle.scaling.specs.Scaled.{dWord}
 use Rattle.deeds.specs.declared.deed.Deed.{Deed}
 use Rattle.deeds.specs.declared.deed.Deed.the-variants as deed
-use Rattle.deeds.specs.declared.deed.Sending.{Sending}
+use Rattle.scaling.specs.declared.Sending.{Sending}
 
 -- what holds of every record of these kinds
 pub record OfKinds (P : Record → Type 0) : Type 0 where

@@ -24,12 +24,12 @@ use Rattle.acts.specs.declared.acting.Kept.{Kept}
 use Rattle.acts.specs.declared.acting.Kept.the-variants as kept
 use Rattle.state.specs.declared.modal.State.{State}
 use Rattle.deeds.specs.Deed.{moveOf, deedOf}
-use Rattle.deeds.specs.Wanted.{zBeforeX, wanted}
+use Rattle.scaling.specs.Wanted.{zBeforeX, wanted}
 use Rattle.deeds.specs.declared.deed.Deed.{Deed}
 use Rattle.deeds.specs.declared.deed.Deed.the-variants as deed
 use Rattle.asking.specs.Judge.{doing}
 use Rattle.deeds.specs.Known.{Right}
-use Rattle.deeds.proofs.Wanted.{is-wanted}
+use Rattle.scaling.proofs.Wanted.{is-wanted}
 use Rattle.cycles.specs.declared.Cycle.the-variants as cycle
 use Rattle.turning.specs.Turned.{Turned}
 use Rattle.turning.specs.Turning.{turning}

@@ -19,7 +19,7 @@ use Rattle.state.specs.declared.modal.State.{State}
 use Rattle.asking.specs.Judge.{doing}
 use Rattle.deeds.specs.declared.deed.Deed.{Deed}
 use Rattle.deeds.specs.declared.deed.Deed.the-variants as deed
-use Rattle.deeds.specs.declared.deed.Sending.{Sending}
+use Rattle.scaling.specs.declared.Sending.{Sending}
 use Rattle.deeds.proofs.Made.{Starts, starts}
 use Rattle.verdicts.specs.Verdicts.{sendingOf, deedIn}
 use Rattle.machine.specs.Blocks.{doneRecords, doneState}

@@ -32,8 +32,9 @@ use Rattle.state.specs.Target.{offsetOf, targetX, targetZ}
 use Rattle.state.specs.declared.modal.State.{State}
 use Rattle.state.specs.declared.target.Pair.{Pair}
 use Rattle.settings.specs.declared.control.Settings.{Settings}
-use Rattle.deeds.specs.Deed.{isFacing, grooveOf, boreOf, moveOf, deedOf}
-use Rattle.deeds.specs.Wanted.{zBeforeX, xAxisWanted, zAxisWanted, wanted}
+use Rattle.scaling.specs.Scaled.{isFacing, grooveOf, boreOf}
+use Rattle.deeds.specs.Deed.{moveOf, deedOf}
+use Rattle.scaling.specs.Wanted.{zBeforeX, xAxisWanted, zAxisWanted, wanted}
 use Rattle.deeds.specs.Known.{Right}
 use Rattle.deeds.specs.declared.deed.Deed.{Deed}
 use Rattle.deeds.specs.declared.deed.Deed.the-variants as deed

@@ -26,7 +26,8 @@ use Rattle.settings.specs.Limits.{outsideSpan, outside}
 use Rattle.axes.specs.Limits.{anyOutside}
 use Rattle.turning.specs.Turning.{tooShort, passCount, passOn, passes, turning, recordCount}
 use Rattle.grooving.specs.Grooving.{wrong, stepCount, steps, cutCount, cutting, dwelling, plunge, plunges, grooving, plungeCount, recordCount as recordCountGrooving}
-use Rattle.deeds.specs.Deed.{hasPath, hasCentre, isFacing, turningOf, grooveOf, straightIf, moveOf, deedOf}
+use Rattle.deeds.specs.Deed.{hasPath, hasCentre, straightIf, moveOf, deedOf}
+use Rattle.scaling.specs.Scaled.{isFacing, turningOf, grooveOf}
 use Rattle.asking.specs.Judge.{asksOf, alarmOf, doing}
 use Rattle.verdicts.specs.Verdicts.{sendingOf, deedIn, asksIn, askedIn, alarmIn}
 use Rattle.machine.specs.Blocks.{doneRecords, doneState}

@@ -26,7 +26,7 @@ use Rattle.deeds.specs.Deed.{moveOf, deedOf}
 use Rattle.deeds.specs.Known.{Right}
 use Rattle.deeds.specs.declared.deed.Deed.{Deed}
 use Rattle.deeds.specs.declared.deed.Deed.the-variants as deed
-use Rattle.deeds.proofs.Wanted.{is-thread-wanted}
+use Rattle.scaling.proofs.Wanted.{is-thread-wanted}
 use Rattle.asking.specs.Judge.{doing}
 use Rattle.writing.specs.Writes.{oneIf, speedOf, toolOf, mOf, speedAndTool, spindleAndCoolant, done, stops, stopping, writes}
 use Rattle.verdicts.specs.Verdicts.{sendingOf, deedIn, alarmIn}

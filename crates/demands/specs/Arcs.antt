@@ -22,7 +22,7 @@ use Rattle.arcs.specs.declared.arc.Arc.{Arc}
 use Rattle.state.specs.Modal.{blockMotion, settled}
 use Rattle.state.specs.Target.{offsetOf}
 use Rattle.state.specs.declared.modal.State.{State}
-use Rattle.deeds.specs.Wanted.{arcWanted}
+use Rattle.scaling.specs.Wanted.{arcWanted}
 use Rattle.steps.specs.Steps.{Task, Step, blockOn}
 use Rattle.runners.specs.Runs.{recordsOf}
 use Rattle.answers.specs.Answers.{countOf}

@@ -8,7 +8,7 @@ use Rattle.block.specs.declared.words.Block.{Block}
 use Rattle.state.specs.Modal.{settled}
 use Rattle.state.specs.Target.{offsetOf}
 use Rattle.state.specs.declared.modal.State.{State}
-use Rattle.deeds.specs.Wanted.{wanted, threadWanted}
+use Rattle.scaling.specs.Wanted.{wanted, threadWanted}
 use Rattle.settings.specs.declared.control.Settings.{Settings}
 use Rattle.turning.specs.declared.cycle.Turning.{Turning}
 use Rattle.threading.specs.declared.thread.Thread.{Thread}

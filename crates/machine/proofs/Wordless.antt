@@ -27,7 +27,7 @@ use Rattle.state.specs.declared.modal.State.{State}
 use Rattle.deeds.specs.Deed.{hasPath, hasCentre, straightIf, roundIf, moveOf, deedOf}
 use Rattle.deeds.specs.declared.deed.Deed.{Deed}
 use Rattle.deeds.specs.declared.deed.Deed.the-variants as deed
-use Rattle.deeds.specs.declared.deed.Sending.{Sending}
+use Rattle.scaling.specs.declared.Sending.{Sending}
 use Rattle.asking.specs.Judge.{asksOf, alarmOf, doing}
 use Rattle.asking.specs.declared.Asked.{Asked}
 use Rattle.writing.specs.Writes.{oneIf, speedAndTool, spindleAndCoolant, done, stops, stopping, writes, otherCount}

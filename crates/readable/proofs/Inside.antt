@@ -30,7 +30,7 @@ use Rattle.deeds.specs.Deed.{hasPath, hasCentre, straightIf, startSpot, endSpot
 use Rattle.deeds.specs.Known.{Centred, InThrice, Right}
 use Rattle.deeds.specs.declared.deed.Deed.{Deed}
 use Rattle.deeds.specs.declared.deed.Deed.the-variants as deed
-use Rattle.deeds.specs.declared.deed.Sending.{Sending}
+use Rattle.scaling.specs.declared.Sending.{Sending}
 use Rattle.deeds.proofs.Made.{Starts}
 use Rattle.asking.specs.Judge.{asksOf, doing}
 use Rattle.demands.proofs.DeedKinds.{Told, cycle-each}

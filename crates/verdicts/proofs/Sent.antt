@@ -24,7 +24,8 @@ use Rattle.settings.specs.Known.{Table, InRange}
 use Rattle.settings.specs.declared.control.Settings.{Settings}
 use Rattle.state.specs.declared.modal.State.{State}
 use Rattle.state.specs.declared.target.Pair.{Pair}
-use Rattle.deeds.specs.Known.{Small, Centred}
+use Rattle.scaling.specs.Known.{Small}
+use Rattle.deeds.specs.Known.{Centred}
 use Rattle.deeds.proofs.Made.{Sends, known as deed-known}
 use Rattle.deeds.specs.Known.{Known}
 use Rattle.verdicts.specs.Verdicts.{sendingOf, deedIn}

@@ -13,7 +13,7 @@ use Rattle.state.specs.declared.modal.State.{State}
 use Rattle.deeds.specs.Deed.{deedOf}
 use Rattle.asking.specs.Judge.{asksOf, alarmOf}
 use Rattle.deeds.specs.declared.deed.Deed.{Deed}
-use Rattle.deeds.specs.declared.deed.Sending.{Sending}
+use Rattle.scaling.specs.declared.Sending.{Sending}
 use Rattle.asking.specs.declared.Asked.{Asked}
 use Rattle.asking.specs.declared.Asks.{Asks}
 use Rattle.writing.specs.Writes.{otherCount}

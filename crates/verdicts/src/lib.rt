@@ -3,7 +3,7 @@
 use asking::Asked;
 use block::words::Block;
 use deeds::deed::Deed;
-use deeds::deed::Sending;
+use scaling::Sending;
 use settings::control::Settings;
 use state::modal::State;
 ghost use mathlib.Core.Path.{_≡_};

@@ -6,7 +6,7 @@ use native.Mathlib.Omega.{arith}
 use borrow.Author.Needs.{needs}
 use Rattle.deeds.specs.Deed.{deedOf}
 use Rattle.deeds.specs.Known.{Centred, Known}
-use Rattle.deeds.specs.declared.deed.Sending.{Sending}
+use Rattle.scaling.specs.declared.Sending.{Sending}
 use Rattle.verdicts.specs.Verdicts.{sendingOf, deedIn}
 use Rattle.verdicts.proofs.Sent.{small, centred, feed-settled, known-in}
 use Rattle.verdicts.proofs.deed_in.Statement.{statement}

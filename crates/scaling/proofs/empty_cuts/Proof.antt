@@ -1,11 +1,11 @@
--- `deeds::deed::empty_cuts` meets its contract.
+-- `scaling::empty_cuts` meets its contract.
 use mathlib.Core.Path.{_≡_, refl, sym, ap, _∙_}
 use borrow.Author.Needs.{needs}
 use Rattle.block.specs.Slots.{has}
-use Rattle.deeds.specs.Deed.{dWord}
-use Rattle.deeds.proofs.Doing.{empty-made}
-use Rattle.deeds.proofs.deed.empty_cuts.Statement.{statement}
-use Rattle.deeds.proofs.deed.empty_cuts.Tie as tie
+use Rattle.scaling.specs.Scaled.{dWord}
+use Rattle.scaling.proofs.Scaling.{empty-made}
+use Rattle.scaling.proofs.empty_cuts.Statement.{statement}
+use Rattle.scaling.proofs.empty_cuts.Tie as tie
 
 returns : tie.Need-returns
 returns c =

@@ -1,13 +1,13 @@
--- `deeds::deed::thread_of` meets its contract.
+-- `scaling::thread_of` meets its contract.
 use mathlib.Core.Path.{_≡_, refl, sym, ap, _∙_}
 use mir.Syntax.{w32}
 use mir.Val.{SFits}
 use borrow.Author.Needs.{needs}
 use Rattle.threading.specs.Bits.{isNominal, ruleOf}
-use Rattle.deeds.specs.Deed.{xBare, zBare}
-use Rattle.deeds.proofs.Doing.{axis-read, thread-made}
-use Rattle.deeds.proofs.deed.thread_of.Statement.{statement}
-use Rattle.deeds.proofs.deed.thread_of.Tie as tie
+use Rattle.scaling.specs.Scaled.{xBare, zBare}
+use Rattle.scaling.proofs.Scaling.{axis-read, thread-made}
+use Rattle.scaling.proofs.thread_of.Statement.{statement}
+use Rattle.scaling.proofs.thread_of.Tie as tie
 
 -- the axes fit
 x : (c : tie.Start) → SFits w32 (c .args .s .x) × SFits w32 (c .args .s .«x_target»)

@@ -1,13 +1,13 @@
--- `deeds::deed::turning_of` meets its contract.
+-- `scaling::turning_of` meets its contract.
 use mathlib.Core.Path.{sym, _∙_}
 use native.Mathlib.Omega.{arith}
 use mir.Syntax.{w32}
 use mir.Val.{SFits}
-use Rattle.deeds.specs.Deed.{xAxis, zAxis}
-use Rattle.deeds.proofs.Doing.{axis-read, cycle-made}
+use Rattle.scaling.specs.Scaled.{xAxis, zAxis}
+use Rattle.scaling.proofs.Scaling.{axis-read, cycle-made}
 use borrow.Author.Needs.{needs}
-use Rattle.deeds.proofs.deed.turning_of.Statement.{statement}
-use Rattle.deeds.proofs.deed.turning_of.Tie as tie
+use Rattle.scaling.proofs.turning_of.Statement.{statement}
+use Rattle.scaling.proofs.turning_of.Tie as tie
 
 -- the axes fit
 x : (c : tie.Start) → SFits w32 (c .args .s .x) × SFits w32 (c .args .s .«x_target»)

@@ -1,5 +1,5 @@
 -- DEMAND 3'S OWN WORDS, and those of the promises of threads and of arcs: the cycle that a G84 block asks for, the thread that a G85 block asks for, and the arc that a block asks for under G02 or G03, from the words that apply in it, the offset in force, and the state after its own G, T and F words and before its move: the axes
--- stand there where they stood before the block. Nothing here is cited by what says how a G84, a G85 or an arc is done, nor cites it (`turningOf`, `threadOf`, `roundOf`, `targetX`). That it is done so is proved: proofs/Wanted.antt.
+-- stand there where they stood before the block. Nothing here is cited by what says how a G84, a G85 or an arc is done, nor cites it (`turningOf`, `threadOf`, `roundOf`, `targetX`). That it is done so is proved: proofs/Wanted.antt, and of an arc that of `deeds`.
 use mathlib.Core.Bool.{Bool, true, false, cond}
 use Prim.Native.Nat.{ℕ, _+_, _*_}
 use lib.Dec.{ltb}

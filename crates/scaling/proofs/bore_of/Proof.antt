@@ -1,11 +1,11 @@
--- `deeds::deed::bore_of` meets its contract.
+-- `scaling::bore_of` meets its contract.
 use mir.Syntax.{w32}
 use mir.Val.{SFits}
 use mir.Facts.{toZ-ofZ}
 use borrow.Author.Needs.{needs}
-use Rattle.deeds.specs.Deed.{boreOf}
-use Rattle.deeds.proofs.deed.bore_of.Statement.{statement}
-use Rattle.deeds.proofs.deed.bore_of.Tie as tie
+use Rattle.scaling.specs.Scaled.{boreOf}
+use Rattle.scaling.proofs.bore_of.Statement.{statement}
+use Rattle.scaling.proofs.bore_of.Tie as tie
 
 -- the places fit: asked at the function's entry, where `search` still reaches them
 x : (c : tie.Start) → SFits w32 (c .args .s .x)

@@ -1,0 +1,3 @@
+-- The laws of a cycle's numbers.
+pub mod Scaling
+pub mod Wanted
