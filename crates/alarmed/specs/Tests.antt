@@ -29,7 +29,8 @@ use Rattle.finding.specs.Finding.{findProgram, blockOfProgram}
 use Rattle.places.specs.declared.Found.{Found}
 use Rattle.places.specs.declared.Found.the-variants.{At, Nowhere}
 use Rattle.axes.specs.Limits.{anyOutside}
-use Rattle.arcs.specs.Arcs.{uneven, straying}
+use Rattle.arcs.specs.Arcs.{uneven}
+use Rattle.straying.specs.Straying.{straying}
 use Rattle.cycles.specs.Cycle as cycle
 use Rattle.cycles.specs.Feeds.{leastOfFeed}
 use Rattle.state.specs.Modal.{settled, blockMotion}

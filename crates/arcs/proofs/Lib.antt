@@ -1,11 +1,4 @@
--- The laws of this crate's definitions.
-pub mod Quadrants
-pub mod Sweeps
-pub mod Ways
-pub mod Rays
-pub mod Stays
+-- The laws of arcs.
 pub mod Sizes
 pub mod Ranges
-pub mod Rows
-pub mod Examples
-pub mod Places
+pub mod Told

@@ -1,5 +1,4 @@
--- An arc as its block gives it: its numbers are in the ranges that the functions ask for, its centre lies within three times the table's range, and its end, where nothing strays, in the
--- table's range; its records fit their places and leave the axes at the end.
+-- An arc as its block gives it: its numbers are in the ranges that the functions ask for, and its centre lies within three times the table's range; its records fit their places and leave the axes at the end.
 -- Assumes nothing.
 use mathlib.Core.Path.{_≡_, refl}
 use mathlib.Core.Bool.{Bool, true, false, cond}
@@ -10,23 +9,19 @@ use lib.Signed.{_≤ℤ_}
 use mir.Syntax.{w32}
 use mir.Val.{SFits}
 use Rattle.whole.specs.Position.{tableLeast, tableGreatest, inTable}
-use Rattle.whole.proofs.Integers.{whole, abs, add-in, sub-in, up-mul, down-mul, lt-false}
-use Rattle.whole.proofs.Positions.{InTable, in-range, in-table}
+use Rattle.whole.proofs.Integers.{whole, abs, add-in, sub-in, up-mul, down-mul}
+use Rattle.whole.proofs.Positions.{InTable, in-range}
 use Rattle.settings.specs.Known.{SpanIn}
-use Rattle.settings.specs.Limits.{outside, outsideSpan}
 use Rattle.settings.specs.declared.limits.Limits.{Limits}
-use Rattle.settings.specs.declared.limits.Span.{Span}
 use Rattle.moves.specs.declared.record.Record.{Record}
 use Rattle.moves.specs.Form.{AllFitting}
 use Rattle.moves.specs.Kinds.{clockwiseKind, counterclockwiseKind, isCentre}
 use Rattle.moves.specs.Last.{lastOf}
 use Rattle.moves.proofs.Last.{Moves, after-move}
-use Rattle.axes.proofs.Places.{neither}
-use Rattle.axes.proofs.Reaching.{inside}
 use Rattle.arrows.specs.declared.arrow.Spot.{Spot}
 use Rattle.arcs.specs.declared.arc.Arc.{Arc}
 use Rattle.arcs.specs.declared.arc.CentreWords.{CentreWords}
-use Rattle.arcs.specs.Arcs.{arcOf, endRecord, centreRecord, arcRecords, straying, straysSomewhere, lows, highs, radius2, courseOf}
+use Rattle.arcs.specs.Arcs.{arcOf, endRecord, centreRecord, arcRecords, radius2}
 use Rattle.arcs.specs.Known.{targetReach, startReach, endReach, InReach, LimitsInReach, Central}
 
 -- ---- one axis: s is the start, i is I or K
@@ -102,24 +97,6 @@ module _ (clockwise : Bool) (start end : Spot) (words : CentreWords) (h : Centra
   pub centre-in-z : let c = arcOf clockwise start end words .centre .z in ((pos 3 *ℤ tableLeast) ≤ℤ c) × (c ≤ℤ (pos 3 *ℤ tableGreatest))
   unfolding arcOf
   centre-in-z = centre-z (start .z) (words .k) (in-range (start .z) (h .z)) (in-range (words .k) (h .k))
-
--- ---- its end, where nothing strays
-pub end-inside : (l : Limits) (a : Arc) → straying l a ≡ false → outside l (a .end .x) (a .end .z) ≡ false
-unfolding straying
-end-inside l a h = neither (outside l (a .end .x) (a .end .z)) (straysSomewhere (lows l a) (highs l a) (radius2 a) (courseOf a)) h .0
-
-in-span : (s : Span) → SpanIn s → (v : ℤ) → outsideSpan s v ≡ false → inTable v ≡ true
-in-span s i v e =
-    let n = inside s v e in
-    let low = in-range (s .lowest) (i .lowest) in
-    let high = in-range (s .highest) (i .highest) in
-    in-table v (record { low = omega (whole, lt-false v (s .lowest) (n .low)); high = omega (whole, lt-false (s .highest) v (n .high)) })
-
-pub end-in-table : (l : Limits) (a : Arc) → SpanIn (l .x) → SpanIn (l .z) → straying l a ≡ false → (inTable (a .end .x) ≡ true) × (inTable (a .end .z) ≡ true)
-unfolding outside
-end-in-table l a x z h =
-    let n = neither (outsideSpan (l .x) (a .end .x)) (outsideSpan (l .z) (a .end .z)) (end-inside l a h) in
-    (in-span (l .x) x (a .end .x) (n .0), in-span (l .z) z (a .end .z) (n .1))
 
 -- ---- its records
 -- of a centre that fits, as every centre in three times the table's range does

@@ -5,23 +5,22 @@ use native.Mathlib.Omega.{arith}
 use native.Mathlib.Nat.{mul-le-mul}
 use lib.IntN.{ℤ, pos, natAbs, _-ℤ_}
 use Rattle.whole.proofs.Integers.{abs-mul}
-use Rattle.settings.specs.declared.limits.Limits.{Limits}
 use Rattle.arrows.specs.declared.arrow.Arrow.{Arrow}
 use Rattle.arcs.specs.declared.arc.Arc.{Arc}
 use Rattle.arrows.specs.Arrows.{arrow, square}
-use Rattle.arcs.specs.Arcs.{startOf, endOf, lows, highs}
+use Rattle.arcs.specs.Arcs.{startOf, endOf}
 use Rattle.arrows.specs.Known.{greatestPart, startSquare, endSquare, Sized}
-use Rattle.arcs.specs.Known.{startReach, endReach, InReach, LimitsInReach}
+use Rattle.arcs.specs.Known.{startReach, endReach, InReach}
 
 -- an arrow of bounded parts: right within 2 x n, up within m
-record Bounded (m n : ℕ) (a : Arrow) : Type 0 where
-  right : natAbs (a .right) ≤ 2 * n
-  up : natAbs (a .up) ≤ m
+pub record Bounded (m n : ℕ) (a : Arrow) : Type 0 where
+  pub right : natAbs (a .right) ≤ 2 * n
+  pub up : natAbs (a .up) ≤ m
 
-bounded : (m n : ℕ) (cx cz x z : ℤ) → natAbs (x -ℤ cx) ≤ m → natAbs (z -ℤ cz) ≤ n → Bounded m n (arrow cx cz x z)
+pub bounded : (m n : ℕ) (cx cz x z : ℤ) → natAbs (x -ℤ cx) ≤ m → natAbs (z -ℤ cz) ≤ n → Bounded m n (arrow cx cz x z)
 bounded m n cx cz x z h k = record { right = omega (arith, abs-mul (pos 2) (z -ℤ cz)); up = h }
 
-sized : {m n : ℕ} {a : Arrow} → Bounded m n a → m ≤ greatestPart → 2 * n ≤ greatestPart → Sized a
+pub sized : {m n : ℕ} {a : Arrow} → Bounded m n a → m ≤ greatestPart → 2 * n ≤ greatestPart → Sized a
 sized b h k = record { right = omega arith; up = omega arith }
 
 square-most : {m n : ℕ} {a : Arrow} → Bounded m n a → square a ≤ 4 * (n * n) + m * m
@@ -48,12 +47,3 @@ module _ {a : Arc} (t : InReach a) where
 
   pub end-square : square (endOf a) ≤ endSquare
   end-square = omega (arith, square-most end-bounded)
-
-module _ {l : Limits} {a : Arc} (f : LimitsInReach l a) where
-  pub low-sized : Sized (lows l a)
-  unfolding lows
-  low-sized = sized (bounded endReach endReach (a .centre .x) (a .centre .z) (l .x .lowest) (l .z .lowest) (f .lowX) (f .lowZ)) (omega arith) (omega arith)
-
-  pub high-sized : Sized (highs l a)
-  unfolding highs
-  high-sized = sized (bounded endReach endReach (a .centre .x) (a .centre .z) (l .x .highest) (l .z .highest) (f .highX) (f .highZ)) (omega arith) (omega arith)

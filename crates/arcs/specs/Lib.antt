@@ -1,5 +1,4 @@
 -- The definitions that the contracts of this crate cite, and those of the crates built on it.
 pub mod Arcs
-pub mod Points
-pub mod Rows
+pub mod Told
 pub mod Known

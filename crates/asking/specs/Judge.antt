@@ -11,7 +11,8 @@ use Rattle.moves.specs.declared.record.Record.{Record}
 use Rattle.settings.specs.Limits.{outside}
 use Rattle.axes.specs.Limits.{anyOutside}
 use Rattle.settings.specs.declared.limits.Limits.{Limits}
-use Rattle.arcs.specs.Arcs.{arcRecords, uneven, straying}
+use Rattle.arcs.specs.Arcs.{arcRecords, uneven}
+use Rattle.straying.specs.Straying.{straying}
 use Rattle.cycles.specs.Feeds.{leastOfFeed, greatestFeed}
 use Rattle.cycles.specs.Cycle as cycle
 use Rattle.cycles.specs.declared.Cycle as cycles

@@ -60,7 +60,7 @@ fn of_round(round: Round, l: Limits) -> Asks
 {
     let arc = round.arc;
     let wrong = arcs::arc::is_uneven(arc);
-    let outside = arcs::limits::is_straying(l, arc);
+    let outside = straying::is_straying(l, arc);
     Asks {
         nowhere: false,
         waits: true,

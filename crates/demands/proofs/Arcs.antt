@@ -25,9 +25,9 @@ use Rattle.settings.specs.declared.limits.Span.{Span}
 use Rattle.axes.proofs.Every.{Every}
 use Rattle.axes.proofs.Places.{neither, both}
 use Rattle.arcs.specs.Arcs.{arcRecords}
-use Rattle.arcs.specs.Rows.{ArcsKeep}
+use Rattle.straying.specs.Rows.{ArcsKeep}
 use Rattle.arcs.specs.declared.arc.Arc.{Arc}
-use Rattle.arcs.proofs.Rows.{Plain, Kept, none, other, plain-kept, arc-kept, joined-kept, arcs-keep}
+use Rattle.straying.proofs.Rows.{Plain, Kept, none, other, plain-kept, arc-kept, joined-kept, arcs-keep}
 use Rattle.cycles.specs.Cycle.{records}
 use Rattle.state.specs.Modal.{blockMotion, settled}
 use Rattle.state.specs.Target.{offsetOf}

@@ -17,7 +17,7 @@ use Rattle.block.specs.Slots.{pathSlots, anyIn}
 use Rattle.block.specs.declared.words.Block.{Block}
 use Rattle.settings.specs.declared.control.Settings.{Settings}
 use Rattle.arcs.specs.Arcs.{arcRecords}
-use Rattle.arcs.specs.Rows.{ArcsKeep}
+use Rattle.straying.specs.Rows.{ArcsKeep}
 use Rattle.arcs.specs.declared.arc.Arc.{Arc}
 use Rattle.state.specs.Modal.{blockMotion, settled}
 use Rattle.state.specs.Target.{offsetOf}

@@ -98,7 +98,7 @@ pub fn interpret(
     if buf.len() < moves::HEADER_SIZE {
         return Answer::Alarm(alarms::BUFFER_TOO_SHORT, 0, 0);
     }
-    let told = reading::read::read_tape(tape, set.points, places);
+    let told = scanning::read_tape(tape, set.points, places);
     let read = told.read;
     run_read(tape, table, set, read, places, told.count, buf)
 }

@@ -70,7 +70,7 @@ fn show(name: &[u8], tape: &[u8]) {
         return;
     }
     let mut places = [0u64; reading::read::MOST_PLACES];
-    let told = reading::read::read_tape(tape, false, &mut places);
+    let told = scanning::read_tape(tape, false, &mut places);
     let read = told.read;
     match read {
         Read::Whole(first, end) => print(name, b" read ", first, b" to ", end),

@@ -23,7 +23,7 @@ use Rattle.settings.specs.Known.{SpanIn, InRange}
 use Rattle.settings.specs.Limits.{outside, outsideSpan}
 use Rattle.settings.specs.declared.control.Settings.{Settings}
 use Rattle.settings.specs.declared.limits.Span.{Span}
-use Rattle.arcs.proofs.Ranges.{end-inside}
+use Rattle.straying.proofs.Limits.{end-inside}
 use Rattle.axes.proofs.Reaching.{inside}
 use Rattle.state.specs.Modal.{settled}
 use Rattle.state.specs.Known.{Sound}

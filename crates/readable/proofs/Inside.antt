@@ -24,7 +24,8 @@ use Rattle.settings.specs.declared.limits.Span.{Span}
 use Rattle.axes.specs.Limits.{anyOutside}
 use Rattle.axes.proofs.Reaching.{inside}
 use Rattle.axes.proofs.Every.{Every}
-use Rattle.arcs.proofs.Ranges.{centre-in-x, centre-in-z, end-in-table}
+use Rattle.arcs.proofs.Ranges.{centre-in-x, centre-in-z}
+use Rattle.straying.proofs.Limits.{end-in-table}
 use Rattle.cycles.specs.Cycle.{records}
 use Rattle.deeds.specs.Deed.{hasPath, hasCentre, straightIf, startSpot, endSpot, centreWords, roundOf, roundIf, moveOf, deedOf}
 use Rattle.deeds.specs.Known.{Centred, InThrice, Right}

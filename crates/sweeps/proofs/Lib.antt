@@ -1,0 +1,3 @@
+-- The laws of how far an arc goes.
+pub mod Quadrants
+pub mod Sweeps
