@@ -50,8 +50,8 @@ use Rattle.ahead.specs.declared.Frame.{Frame}
 use Rattle.ahead.specs.declared.ProgramAt.{ProgramAt}
 use Rattle.ahead.specs.declared.Onward.{Onward}
 use Rattle.ahead.specs.declared.Onward.the-variants.{On, Call, Jump, Return, End, Stop}
-use Rattle.steps.specs.Steps.{Task, blockOn, onwardBy, onwardOf, alarmBy, alarmAt}
-use Rattle.steps.specs.declared.step.Run.{Run}
+use Rattle.taking.specs.Steps.{Task, blockOn, onwardBy, onwardOf, alarmBy, alarmAt}
+use Rattle.taking.specs.declared.step.Run.{Run}
 use Rattle.alarmed.specs.Order.{Passes, Refused}
 use Rattle.alarmed.specs.Tests.{Begun, noneLeft, endsBadly, endBad, nowhere, calls, callBad, jumps, jumpBad, deepens, callDeep, isNone, isStraight, lacksMotion, motionless, otherTraverse, rapidMissing, leastFeed, feedBad, wrongLengths, lengthsBad, goesOutside, outsideBad, recordsOf, overfull, blockOrder}
 use Rattle.alarmed.proofs.Orders.{first, Above, passes, refused}

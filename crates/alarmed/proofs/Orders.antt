@@ -1,13 +1,12 @@
 -- An order by its first test that says yes: a number, 0 for none.
 -- Assumes nothing.
-use mathlib.Core.Path.{_≡_, refl, sym, ap, _∙_}
+use mathlib.Core.Path.{_≡_, refl, sym, ap, _∙_, subst}
 use mathlib.Core.Bool.{Bool, true, false, cond, _&&_}
 use mathlib.Core.List.{List, [], _∷_}
 use Prim.Native.Nat.{ℕ}
 use native.Mathlib.Omega.{arith}
-use lib.Dec.{ltb}
+use lib.Dec.{T, ltb}
 use borrow.Author.Tests.{ltb-true}
-use Rattle.steps.proofs.Stepping.{both}
 use Rattle.alarmed.specs.Order.{Row, Passes, none, no, Refused, yes, later}
 
 unfoldable pub first : {A : Type 0} → List (Row A) → A → ℕ
@@ -21,6 +20,10 @@ numbered (r ∷ rs) = ltb 0 (r .number) && numbered rs
 
 abbrev pub Above : {A : Type 0} → List (Row A) → Type 0
 Above rs = numbered rs ≡ true
+
+both : (a b : Bool) → (a && b) ≡ true → (a ≡ true) × (b ≡ true)
+both true b e = (refl, e)
+both false b e = absurd (subst T (sym e) tt)
 
 above-one : {A : Type 0} (r : Row A) (rs : List (Row A)) → Above (r ∷ rs) → r .number ≡ 0 → ⊥
 above-one r rs a z = omega (arith, ltb-true 0 (r .number) (both (ltb 0 (r .number)) (numbered rs) a .0), z)

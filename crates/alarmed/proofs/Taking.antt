@@ -18,10 +18,10 @@ use Rattle.ahead.specs.declared.Frame.{Frame}
 use Rattle.ahead.specs.declared.ProgramAt.{ProgramAt}
 use Rattle.ahead.specs.declared.Onward.{Onward}
 use Rattle.ahead.specs.declared.Onward.the-variants.{On, Call, Jump, Return, End, Stop}
-use Rattle.steps.specs.Steps.{Task, Step, blockOn, onwardOf, alarmBy, alarmAt, runAfter, doneAt, recordsAt, originAt, Taken, takenBy, takenFrom}
-use Rattle.steps.specs.declared.step.Run.{Run}
-use Rattle.steps.specs.declared.step.StepDone.{StepDone}
-use Rattle.steps.proofs.Stepping.{some-left}
+use Rattle.taking.specs.Steps.{Task, Step, blockOn, onwardOf, alarmBy, alarmAt, runAfter, doneAt, recordsAt, originAt, Taken, takenBy, takenFrom}
+use Rattle.taking.specs.declared.step.Run.{Run}
+use Rattle.taking.specs.declared.step.StepDone.{StepDone}
+use Rattle.taking.proofs.Stepping.{some-left}
 use Rattle.runners.specs.Runs.{Ran, ran, pre, goBack, andThen, goOn, onward, blocks, enough, repeated, called, entry}
 use Rattle.runners.specs.declared.run.Ending.{Ending}
 use Rattle.runners.specs.declared.run.Ending.the-variants.{Returned, Ended, Stopped}

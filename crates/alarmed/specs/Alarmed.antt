@@ -14,7 +14,7 @@ use Rattle.reading.specs.Reading.{History, nothingRead, noted, endsWith}
 use Rattle.finding.specs.Finding.{findProgram}
 use Rattle.places.specs.declared.Found.{Found}
 use Rattle.places.specs.declared.Found.the-variants.{At, Nowhere}
-use Rattle.steps.specs.Steps.{Task, taskOf, Step}
+use Rattle.taking.specs.Steps.{Task, taskOf, Step}
 use Rattle.answers.specs.Answers.{startOf}
 use Rattle.answers.specs.declared.Answer.{Answer}
 use Rattle.answers.specs.declared.Answer.the-variants.{Complete, Alarm}

@@ -5,8 +5,8 @@ use Rattle.ahead.specs.Ahead.{mostCalls}
 use Rattle.ahead.specs.declared.Frame.{Frame}
 use Rattle.ahead.specs.declared.ProgramAt.{ProgramAt}
 use Rattle.ahead.specs.declared.Onward.the-variants.{Call}
-use Rattle.steps.specs.Steps.{Task, onwardOf}
-use Rattle.steps.specs.declared.step.Run.{Run}
+use Rattle.taking.specs.Steps.{Task, onwardOf}
+use Rattle.taking.specs.declared.step.Run.{Run}
 use Rattle.runners.specs.Runs.{blocks, called, programRun}
 use Rattle.runners.specs.declared.run.Ending.the-variants.{Returned}
 

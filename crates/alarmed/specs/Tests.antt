@@ -45,8 +45,8 @@ use Rattle.asking.specs.Judge.{feedWrong}
 use Rattle.verdicts.specs.Verdicts.{deedIn}
 use Rattle.machine.specs.Blocks.{doneRecords}
 use Rattle.ahead.specs.Ahead.{mostCalls}
-use Rattle.steps.specs.Steps.{Task, blockOn}
-use Rattle.steps.specs.declared.step.Run.{Run}
+use Rattle.taking.specs.Steps.{Task, blockOn}
+use Rattle.taking.specs.declared.step.Run.{Run}
 use Rattle.alarmed.specs.Order.{Row, row}
 
 -- ---- 1 TO 4, of what the interpreter is given; the last two: the length of the table of places, and that of the buffer

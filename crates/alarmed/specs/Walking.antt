@@ -13,9 +13,9 @@ use Rattle.state.specs.Request.{requestOf}
 use Rattle.state.specs.declared.request.Request.{Request}
 use Rattle.state.specs.declared.request.Request.the-variants.{On, Call, Jump, Return, End}
 use Rattle.machine.specs.Blocks.{doneRecords}
-use Rattle.steps.specs.Steps.{Task, Step, blockOn, runAfter}
+use Rattle.taking.specs.Steps.{Task, Step, blockOn, runAfter}
 use Rattle.ahead.specs.declared.ProgramAt.{ProgramAt}
-use Rattle.steps.specs.declared.step.Run.{Run}
+use Rattle.taking.specs.declared.step.Run.{Run}
 use Rattle.alarmed.specs.Order.{Passes, Refused}
 use Rattle.alarmed.specs.Tests.{Begun, blockOrder}
 

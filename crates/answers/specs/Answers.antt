@@ -6,7 +6,7 @@ use Rattle.alarms.specs.Numbers.{wrongEnd}
 use Rattle.moves.specs.Form.{headerBytes}
 use Rattle.settings.specs.declared.control.Settings.{Settings}
 use Rattle.state.specs.Modal.{atStart}
-use Rattle.steps.specs.declared.step.Run.{Run}
+use Rattle.taking.specs.declared.step.Run.{Run}
 use Rattle.runners.specs.Runs.{blocksInAll}
 use Rattle.runners.specs.declared.run.Ending.{Ending}
 use Rattle.runners.specs.declared.run.Ending.the-variants.{Returned, Ended, Stopped}

@@ -2,7 +2,7 @@
 // (01: "An alarm answers with number, place and records written"; "The header is written only when the run succeeds".)
 use runners::run::Ending;
 use settings::control::Settings;
-use steps::step::Run;
+use taking::step::Run;
 ghost use mathlib.Core.Path.{_≡_};
 ghost use Prim.Native.Nat.{_≤_};
 ghost use lib.ListN.{length};

@@ -11,7 +11,7 @@ use Rattle.alarms.specs.Numbers.{badSettings}
 use Rattle.settings.specs.declared.control.Settings.{Settings}
 use Rattle.answers.specs.Answers.{numberOf, placeOf, countOf}
 use Rattle.interpreter.specs.Answers.{Result, refused, interpretation, answerOf, placesOf, bufferOf, laidBy}
-use Rattle.steps.specs.Steps.{Task}
+use Rattle.taking.specs.Steps.{Task}
 use Rattle.answers.specs.declared.Answer.{Answer}
 use Rattle.answers.specs.declared.Answer.the-variants.{Alarm}
 use Rattle.interpreter.proofs.Whole.{none-begun}

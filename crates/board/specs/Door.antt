@@ -10,7 +10,7 @@ use Rattle.settings.specs.Row.{unfit, settingsOf}
 use Rattle.answers.specs.Answers.{numberOf, placeOf, countOf}
 use Rattle.interpreter.specs.Answers.{Result, refused, interpretation, placesOf, laidBy}
 use Rattle.answers.specs.declared.Answer.{Answer}
-use Rattle.steps.specs.Steps.{Task}
+use Rattle.taking.specs.Steps.{Task}
 use Rattle.demands.specs.Demands.{Owed, OwedList, TableAfter, Each, EachFrom, EveryCycle, CutIn, Threads, ThreadsIn, task}
 use Rattle.demands.specs.Origins.{BlockNamed}
 use Rattle.demands.specs.Placed.{acceptedIn}

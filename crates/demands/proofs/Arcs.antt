@@ -48,8 +48,8 @@ use Rattle.machine.specs.Blocks.{doneRecords, doneState}
 use Rattle.machine.proofs.Running.{stands-inside}
 use Rattle.ahead.specs.Ahead.{mostCalls, onto}
 use Rattle.ahead.specs.declared.ProgramAt.{ProgramAt}
-use Rattle.steps.specs.Steps.{Task, taskOf, Step, blockOn, runAfter}
-use Rattle.steps.specs.declared.step.Run.{Run}
+use Rattle.taking.specs.Steps.{Task, taskOf, Step, blockOn, runAfter}
+use Rattle.taking.specs.declared.step.Run.{Run}
 use Rattle.runners.specs.Runs.{recordsOf, programRun}
 use Rattle.runners.proofs.Going.{listed-whats}
 use Rattle.answers.specs.Answers.{startOf}

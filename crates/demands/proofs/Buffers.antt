@@ -24,9 +24,9 @@ use Rattle.settings.specs.declared.control.Settings.{Settings}
 use Rattle.machine.proofs.Running.{sound-after}
 use Rattle.ahead.specs.Ahead.{mostCalls, onto, FoundAt}
 use Rattle.ahead.specs.declared.ProgramAt.{ProgramAt}
-use Rattle.steps.specs.Steps.{Task, taskOf, Step, listedBy, blockOn, runAfter}
-use Rattle.steps.specs.declared.step.Run.{Run}
-use Rattle.steps.proofs.Stepping.{worded-on}
+use Rattle.taking.specs.Steps.{Task, taskOf, Step, listedBy, blockOn, runAfter}
+use Rattle.taking.specs.declared.step.Run.{Run}
+use Rattle.taking.proofs.Lines.{worded-on}
 use Rattle.interpreter.specs.Answers.{Result, refused, resultOf, mainAt, interpretation, laidBy}
 use Rattle.answers.specs.Answers.{answerBy, startOf, headed}
 use Rattle.runners.specs.Runs.{listedOf, programRun}

@@ -11,8 +11,8 @@ use Rattle.state.specs.declared.modal.State.{State}
 use Rattle.verdicts.specs.Verdicts.{alarmIn}
 use Rattle.machine.specs.Blocks.{doneRecords}
 use Rattle.ahead.specs.Ahead.{onto}
-use Rattle.steps.specs.Steps.{Task, Step, blockOn, runAfter}
-use Rattle.steps.specs.declared.step.Run.{Run}
+use Rattle.taking.specs.Steps.{Task, Step, blockOn, runAfter}
+use Rattle.taking.specs.declared.step.Run.{Run}
 use Rattle.runners.specs.Runs.{recordsOf}
 use Rattle.demands.specs.Steps.{Done, Linked}
 use Rattle.demands.specs.Demands.{Each}

@@ -17,7 +17,7 @@ use Rattle.verdicts.specs.Verdicts.{alarmIn}
 use Rattle.machine.specs.Blocks.{doneRecords}
 use Rattle.ahead.specs.Ahead.{mostCalls}
 use Rattle.ahead.specs.declared.ProgramAt.{ProgramAt}
-use Rattle.steps.specs.Steps.{Task, taskOf, Step, blockOn}
+use Rattle.taking.specs.Steps.{Task, taskOf, Step, blockOn}
 use Rattle.answers.specs.Answers.{countOf, answerBy, startOf}
 use Rattle.interpreter.specs.Answers.{Result, refused, resultOf, mainAt, interpretation}
 use Rattle.runners.specs.Runs.{programRun}

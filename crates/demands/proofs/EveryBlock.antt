@@ -9,7 +9,7 @@ use Rattle.settings.specs.Points.{withPoints}
 use Rattle.settings.specs.declared.control.Settings.{Settings}
 use Rattle.ahead.specs.Ahead.{mostCalls, FoundAt}
 use Rattle.ahead.specs.declared.ProgramAt.{ProgramAt}
-use Rattle.steps.specs.Steps.{Task, taskOf, Step}
+use Rattle.taking.specs.Steps.{Task, taskOf, Step}
 use Rattle.runners.specs.Runs.{programRun}
 use Rattle.answers.specs.Answers.{startOf}
 use Rattle.interpreter.specs.Answers.{Result, refused, resultOf, mainAt, interpretation, bufferOf}

@@ -27,8 +27,8 @@ use Rattle.machine.proofs.Running.{done-few}
 use Rattle.moves.proofs.Room.{room-few, room-fits}
 use Rattle.ahead.specs.Ahead.{mostCalls, onto, FoundAt}
 use Rattle.ahead.specs.declared.ProgramAt.{ProgramAt}
-use Rattle.steps.specs.Steps.{Task, taskOf, Step, listedBy, blockOn, runAfter}
-use Rattle.steps.specs.declared.step.Run.{Run}
+use Rattle.taking.specs.Steps.{Task, taskOf, Step, listedBy, blockOn, runAfter}
+use Rattle.taking.specs.declared.step.Run.{Run}
 use Rattle.answers.specs.Answers.{countOf, answerBy, startOf, headed}
 use Rattle.interpreter.specs.Answers.{Result, refused, resultOf, mainAt, longestTape, interpretation, answerOf, laidBy}
 use Rattle.runners.specs.Runs.{listedOf, programRun}

@@ -16,15 +16,15 @@ use Rattle.places.specs.declared.Found.the-variants.{At, Nowhere}
 use Rattle.verdicts.specs.Verdicts.{alarmIn}
 use Rattle.machine.specs.Blocks.{doneRecords}
 use Rattle.finding.specs.Finding.{firstBlock}
-use Rattle.steps.specs.Steps.{Task, Step, blockOn, onwardOf, alarmBy, alarmAt, runAfter, doneAt, recordsAt, originAt, takenBy, takenFrom}
+use Rattle.taking.specs.Steps.{Task, Step, blockOn, onwardOf, alarmBy, alarmAt, runAfter, doneAt, recordsAt, originAt, takenBy, takenFrom}
 use Rattle.ahead.specs.declared.ProgramAt.{ProgramAt}
 use Rattle.ahead.specs.declared.Frame.{Frame}
 use Rattle.ahead.specs.declared.Onward.{Onward}
 use Rattle.ahead.specs.declared.Onward.the-variants.{On, Call, Jump, Return, End, Stop}
-use Rattle.steps.specs.declared.step.StepDone.{StepDone}
-use Rattle.steps.specs.declared.step.Run.{Run}
+use Rattle.taking.specs.declared.step.StepDone.{StepDone}
+use Rattle.taking.specs.declared.step.Run.{Run}
 use Rattle.ahead.proofs.Places.{FoundIn, first-on, OnwardOn}
-use Rattle.steps.proofs.Stepping.{onward-on}
+use Rattle.taking.proofs.Stepping.{onward-on}
 use Rattle.runners.specs.Runs.{Ran, ran, pre, goBack, andThen, goOn, onward, blocks, enough, repeated, called, entry, programRun}
 use Rattle.runners.specs.declared.run.Ending.{Ending}
 use Rattle.runners.specs.declared.run.Ending.the-variants.{Returned, Ended, Stopped}

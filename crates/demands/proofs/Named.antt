@@ -26,13 +26,13 @@ use Rattle.asking.specs.declared.Asked.{Asked}
 use Rattle.asking.specs.declared.Asks.{Asks}
 use Rattle.verdicts.specs.Verdicts.{asksIn, askedIn, alarmIn}
 use Rattle.settings.specs.declared.control.Settings.{Settings}
-use Rattle.steps.specs.Steps.{Task, blockOn, onwardOf, alarmBy, alarmAt}
+use Rattle.taking.specs.Steps.{Task, blockOn, onwardOf, alarmBy, alarmAt}
 use Rattle.ahead.specs.declared.Frame.{Frame}
 use Rattle.ahead.specs.declared.Onward.{Onward}
 use Rattle.ahead.specs.declared.Onward.the-variants.{On, Call, Jump, Return, End, Stop}
-use Rattle.steps.specs.declared.step.Run.{Run}
+use Rattle.taking.specs.declared.step.Run.{Run}
 use Rattle.ahead.proofs.Places.{OnwardOn}
-use Rattle.steps.proofs.Stepping.{onward-on}
+use Rattle.taking.proofs.Stepping.{onward-on}
 
 -- 0, or an alarm that is given where points are asked for or not
 abbrev pub NoneOrGiven : Bool → ℕ → Type 0

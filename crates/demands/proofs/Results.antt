@@ -23,7 +23,7 @@ use Rattle.reading.specs.declared.read.Read.{Read}
 use Rattle.reading.specs.declared.read.Read.the-variants as read
 use Rattle.settings.specs.declared.control.Settings.{Settings}
 use Rattle.ahead.specs.Ahead.{mostCalls, FoundAt}
-use Rattle.steps.specs.Steps.{Task, taskOf}
+use Rattle.taking.specs.Steps.{Task, taskOf}
 use Rattle.ahead.proofs.Places.{AllIn, lines-in, FoundIn, program-on}
 use Rattle.interpreter.specs.Answers.{Result, refused, resultOf, mainAt, mainBy, mainRun, readThen, longestTape, interpretationBy, interpretation}
 use Rattle.answers.specs.Answers.{startOf}

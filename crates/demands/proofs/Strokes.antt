@@ -43,7 +43,7 @@ use Rattle.writing.specs.Writes.{oneIf, speedOf, toolOf, mOf, speedAndTool, spi
 use Rattle.verdicts.specs.Verdicts.{sendingOf, deedIn, alarmIn}
 use Rattle.verdicts.proofs.Passing.{right-in}
 use Rattle.machine.specs.Blocks.{doneRecords}
-use Rattle.steps.specs.Steps.{Task}
+use Rattle.taking.specs.Steps.{Task}
 use Rattle.interpreter.specs.Answers.{interpretation}
 use Rattle.demands.specs.Opens.{wantedIn}
 use Rattle.demands.specs.Strokes.{opensCutting, wayIn, firstAxis, inwardWanted, inwardIn, DepthLaw, DepthLawInBuffer}

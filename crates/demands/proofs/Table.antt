@@ -33,7 +33,7 @@ use Rattle.verdicts.specs.Verdicts.{sendingOf, deedIn, asksIn, askedIn, alarmIn
 use Rattle.machine.specs.Blocks.{doneRecords, doneState}
 use Rattle.writing.specs.Writes.{oneIf, speedOf, toolOf, mOf, speedAndTool, spindleAndCoolant, moved, done, stops, stopping, writes, otherCount}
 use Rattle.ahead.specs.Ahead.{calledAt, jumpedTo, lookedBy, lookedUp}
-use Rattle.steps.specs.Steps.{blockIn, blockOn, onwardBy, alarmBy, alarmAt, runAfter, doneAt, recordsAt, originAt, takenBy, takenFrom}
+use Rattle.taking.specs.Steps.{blockIn, blockOn, onwardBy, alarmBy, alarmAt, runAfter, doneAt, recordsAt, originAt, takenBy, takenFrom}
 use Rattle.answers.specs.Answers.{answerBy}
 use Rattle.interpreter.specs.Answers.{resultOf, mainBy, mainRun, readThen, interpretationBy, interpretation}
 use Rattle.runners.specs.Runs.{recordsOf, listedOf, pre, goBack, andThen, goOn, onward, blocks, enough, repeated, called}

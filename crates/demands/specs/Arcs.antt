@@ -23,7 +23,7 @@ use Rattle.state.specs.Modal.{blockMotion, settled}
 use Rattle.state.specs.Target.{offsetOf}
 use Rattle.state.specs.declared.modal.State.{State}
 use Rattle.scaling.specs.Wanted.{arcWanted}
-use Rattle.steps.specs.Steps.{Task, Step, blockOn}
+use Rattle.taking.specs.Steps.{Task, Step, blockOn}
 use Rattle.runners.specs.Runs.{recordsOf}
 use Rattle.answers.specs.Answers.{countOf}
 use Rattle.interpreter.specs.Answers.{Result, interpretation, laidBy, bufferOf}

@@ -27,7 +27,7 @@ use Rattle.demands.specs.Placed.{entriesOf, acceptedIn}
 use Rattle.demands.specs.Opens.{opensTurning, wantedIn, opensThreading, threadIn}
 use Rattle.settings.specs.Points.{withPoints}
 use Rattle.settings.specs.declared.control.Settings.{Settings}
-use Rattle.steps.specs.Steps.{Task, taskOf, Step, blockOn}
+use Rattle.taking.specs.Steps.{Task, taskOf, Step, blockOn}
 use Rattle.answers.specs.Answers.{numberOf, placeOf, countOf}
 use Rattle.interpreter.specs.Answers.{Result, longestTape, interpretation, placesOf, bufferOf, laidBy}
 use Rattle.runners.specs.Runs.{listedOf}

@@ -15,7 +15,7 @@ use Rattle.block.specs.declared.words.Head.the-variants.{Blank, ProgramLine, Bl
 use Rattle.finding.specs.Finding.{findProgram}
 use Rattle.places.specs.declared.Found.the-variants.{At}
 use Rattle.settings.specs.declared.control.Settings.{Settings}
-use Rattle.steps.specs.Steps.{Task, Step}
+use Rattle.taking.specs.Steps.{Task, Step}
 use Rattle.interpreter.specs.Answers.{interpretation, bufferOf}
 use Rattle.demands.specs.Demands.{EachFrom, task}
 

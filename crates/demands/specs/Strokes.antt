@@ -19,7 +19,7 @@ use Rattle.state.specs.Target.{offsetOf}
 use Rattle.state.specs.declared.modal.State.{State}
 use Rattle.state.specs.declared.target.Pair.{Pair}
 use Rattle.scaling.specs.Wanted.{zBeforeX, xAxisWanted, zAxisWanted}
-use Rattle.steps.specs.Steps.{Task, Step, blockOn}
+use Rattle.taking.specs.Steps.{Task, Step, blockOn}
 use Rattle.interpreter.specs.Answers.{interpretation, bufferOf}
 use Rattle.demands.specs.Demands.{Each, EachFrom, StandsIn, task}
 

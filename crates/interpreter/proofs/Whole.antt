@@ -27,9 +27,9 @@ use Rattle.state.proofs.Ranges.{start-sound}
 use Rattle.settings.specs.declared.control.Settings.{Settings}
 use Rattle.moves.proofs.Room.{room-few}
 use Rattle.ahead.specs.Ahead.{mostCalls}
-use Rattle.steps.specs.Steps.{Task, taskOf}
+use Rattle.taking.specs.Steps.{Task, taskOf}
 use Rattle.steps.specs.Meets.{Ready, Fit}
-use Rattle.steps.specs.declared.step.Run.{Run}
+use Rattle.taking.specs.declared.step.Run.{Run}
 use Rattle.answers.specs.declared.Answer.{Answer}
 use Rattle.answers.specs.declared.Answer.the-variants.{Alarm}
 use Rattle.runners.specs.declared.run.Ending.{Ending}

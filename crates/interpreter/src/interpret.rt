@@ -9,7 +9,7 @@ ghost use mathlib.Core.Path.{_≡_};
 ghost use Prim.Native.Nat.{_≤_};
 ghost use lib.ListN.{length};
 ghost use Rattle.moves.specs.Form.{headerSize};
-ghost use Rattle.steps.specs.Steps.{taskOf};
+ghost use Rattle.taking.specs.Steps.{taskOf};
 ghost use Rattle.interpreter.specs.Answers.{mainRun, laidBy, readThen, answerOf, placesOf, bufferOf};
 ghost use Rattle.interpreter.specs.Known.{Lent, ReadIn};
 ghost use Rattle.settings.specs.Known.{Right};

@@ -29,9 +29,9 @@ use Rattle.machine.specs.Blocks.{doneRecords, doneState}
 use Rattle.machine.proofs.Running.{sound-after}
 use Rattle.ahead.specs.Ahead.{mostCalls, onto}
 use Rattle.ahead.specs.declared.ProgramAt.{ProgramAt}
-use Rattle.steps.specs.Steps.{Task, taskOf, Step, blockOn, runAfter}
-use Rattle.steps.specs.declared.step.Run.{Run}
-use Rattle.steps.proofs.Stepping.{worded-on}
+use Rattle.taking.specs.Steps.{Task, taskOf, Step, blockOn, runAfter}
+use Rattle.taking.specs.declared.step.Run.{Run}
+use Rattle.taking.proofs.Lines.{worded-on}
 use Rattle.runners.specs.Runs.{recordsOf, programRun}
 use Rattle.runners.proofs.Going.{listed-whats}
 use Rattle.answers.specs.Answers.{startOf, numberOf, countOf}

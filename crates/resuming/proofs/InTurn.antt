@@ -18,8 +18,8 @@ use Rattle.reading.specs.declared.read.Read.{Read}
 use Rattle.reading.specs.declared.read.Read.the-variants as read
 use Rattle.settings.specs.declared.control.Settings.{Settings}
 use Rattle.ahead.specs.Ahead.{mostCalls}
-use Rattle.steps.specs.Steps.{Task, taskOf}
-use Rattle.steps.specs.declared.step.Run.{Run}
+use Rattle.taking.specs.Steps.{Task, taskOf}
+use Rattle.taking.specs.declared.step.Run.{Run}
 use Rattle.runners.specs.Runs.{Ran, programRun, listedOf, blocksInAll, enough}
 use Rattle.answers.specs.declared.Answer.{Answer}
 use Rattle.answers.specs.declared.Answer.the-variants.{Complete, Alarm}

@@ -12,13 +12,13 @@ use Rattle.finding.specs.Finding.{firstBlock}
 use Rattle.places.specs.declared.Found.{Found}
 use Rattle.places.specs.declared.Found.the-variants.{At, Nowhere}
 use Rattle.verdicts.specs.Verdicts.{alarmIn}
-use Rattle.steps.specs.Steps.{Task, Step, Taken, blockOn, onwardOf, alarmBy, alarmAt, runAfter, doneAt, recordsAt, takenBy, takenFrom}
+use Rattle.taking.specs.Steps.{Task, Step, Taken, blockOn, onwardOf, alarmBy, alarmAt, runAfter, doneAt, recordsAt, takenBy, takenFrom}
 use Rattle.ahead.specs.Ahead.{onto}
 use Rattle.ahead.specs.declared.Frame.{Frame}
 use Rattle.ahead.specs.declared.Onward.{Onward}
 use Rattle.ahead.specs.declared.Onward.the-variants.{On, Call, Jump, Return, End, Stop}
-use Rattle.steps.specs.declared.step.Run.{Run}
-use Rattle.steps.proofs.Stepping.{some-left}
+use Rattle.taking.specs.declared.step.Run.{Run}
+use Rattle.taking.proofs.Stepping.{some-left}
 
 abbrev pub Lower : Onward → Run → Run → Type 0
 Lower (Stop alarm place) r s = s .«blocks_left» ≤ r .«blocks_left»

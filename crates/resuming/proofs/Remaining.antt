@@ -5,11 +5,11 @@ use mathlib.Core.List.{List, [], _∷_, _++_, append-assoc, append-nil}
 use Prim.Native.Nat.{ℕ, zero, suc, _+_, _-_, _≤_, _<_}
 use native.Mathlib.Omega.{arith}
 use Rattle.tape.specs.Lines.{lineAt}
-use Rattle.steps.specs.Steps.{Task, Step, Taken, takenFrom}
+use Rattle.taking.specs.Steps.{Task, Step, Taken, takenFrom}
 use Rattle.ahead.specs.declared.ProgramAt.{ProgramAt}
 use Rattle.ahead.specs.declared.Onward.{Onward}
 use Rattle.ahead.specs.declared.Onward.the-variants.{On, Call, Jump, Return, End, Stop}
-use Rattle.steps.specs.declared.step.Run.{Run}
+use Rattle.taking.specs.declared.step.Run.{Run}
 use Rattle.runners.specs.declared.run.Ending.{Ending}
 use Rattle.runners.specs.declared.run.Ending.the-variants.{Returned, Ended, Stopped}
 use Rattle.runners.specs.Runs.{Ran, ran, pre, goBack, andThen, goOn, onward, blocks, blocksInAll, enough, repeated, called, programRun}

@@ -6,11 +6,11 @@ use Prim.Native.Nat.{ℕ, zero, suc, _+_, _-_, _≤_, _<_}
 use native.Mathlib.Omega.{arith}
 use Rattle.alarms.specs.Numbers.{tooDeep, wrongEnd}
 use Rattle.tape.specs.Lines.{lineAt}
-use Rattle.steps.specs.Steps.{Task, Step, listedBy, Taken, takenFrom}
+use Rattle.taking.specs.Steps.{Task, Step, listedBy, Taken, takenFrom}
 use Rattle.ahead.specs.declared.ProgramAt.{ProgramAt}
 use Rattle.ahead.specs.declared.Onward.{Onward}
 use Rattle.ahead.specs.declared.Onward.the-variants.{On, Call, Jump, Return, End, Stop}
-use Rattle.steps.specs.declared.step.Run.{Run}
+use Rattle.taking.specs.declared.step.Run.{Run}
 use Rattle.runners.specs.declared.run.Ending.the-variants.{Returned, Ended, Stopped}
 use Rattle.runners.specs.Runs.{Ran, ran, pre, listedOf, blocksInAll, enough}
 use Rattle.answers.specs.declared.Answer.{Answer}

@@ -15,11 +15,11 @@ use Rattle.reading.specs.declared.read.Read.{Read}
 use Rattle.reading.specs.declared.read.Read.the-variants as read
 use Rattle.settings.specs.declared.control.Settings.{Settings}
 use Rattle.ahead.specs.Ahead.{mostCalls}
-use Rattle.steps.specs.Steps.{Task, taskOf, Step, listedBy, takenFrom}
+use Rattle.taking.specs.Steps.{Task, taskOf, Step, listedBy, takenFrom}
 use Rattle.ahead.specs.declared.ProgramAt.{ProgramAt}
 use Rattle.ahead.specs.declared.Onward.{Onward}
 use Rattle.ahead.specs.declared.Onward.the-variants.{On, Call, Jump, Return, End, Stop}
-use Rattle.steps.specs.declared.step.Run.{Run}
+use Rattle.taking.specs.declared.step.Run.{Run}
 use Rattle.runners.specs.Runs.{enough}
 use Rattle.answers.specs.declared.Answer.{Answer}
 use Rattle.answers.specs.declared.Answer.the-variants.{Complete, Alarm}

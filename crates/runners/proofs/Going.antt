@@ -22,14 +22,14 @@ use Rattle.tape.specs.Lines.{lineAt}
 use Rattle.settings.specs.declared.control.Settings.{Settings}
 use Rattle.moves.proofs.Room.{room-fits}
 use Rattle.ahead.specs.Ahead.{onto, FoundAt}
-use Rattle.steps.specs.Steps.{Task, taskOf, Step, listedBy, Taken, takenFrom}
+use Rattle.taking.specs.Steps.{Task, taskOf, Step, listedBy, Taken, takenFrom}
 use Rattle.steps.specs.Meets.{Ready, Fit, Needs, Goes, Wrote, StepMeets}
 use Rattle.ahead.specs.declared.ProgramAt.{ProgramAt}
 use Rattle.ahead.specs.declared.Frame.{Frame}
 use Rattle.ahead.specs.declared.Onward.{Onward}
 use Rattle.ahead.specs.declared.Onward.the-variants.{On, Call, Jump, Return, End, Stop}
-use Rattle.steps.specs.declared.step.StepDone.{StepDone}
-use Rattle.steps.specs.declared.step.Run.{Run}
+use Rattle.taking.specs.declared.step.StepDone.{StepDone}
+use Rattle.taking.specs.declared.step.Run.{Run}
 use Rattle.runners.specs.declared.run.Ending.{Ending}
 use Rattle.runners.specs.declared.run.Ending.the-variants.{Returned, Ended, Stopped}
 use Rattle.runners.specs.declared.run.Outcome.{Outcome}

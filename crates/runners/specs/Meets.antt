@@ -4,9 +4,9 @@ use mathlib.Core.List.{List}
 use Prim.Native.Nat.{ℕ, _≤_}
 use Rattle.ahead.specs.Ahead.{FoundAt}
 use Rattle.ahead.specs.declared.ProgramAt.{ProgramAt}
-use Rattle.steps.specs.Steps.{Task, Step}
+use Rattle.taking.specs.Steps.{Task, Step}
 use Rattle.steps.specs.Meets.{Ready, Fit, Wrote}
-use Rattle.steps.specs.declared.step.Run.{Run}
+use Rattle.taking.specs.declared.step.Run.{Run}
 use Rattle.runners.specs.declared.run.Outcome.{Outcome}
 use Rattle.runners.specs.Runs.{blocksInAll, Ran, listedOf, called, programRun}
 

@@ -7,12 +7,12 @@ use Rattle.moves.specs.declared.record.Record.{Record}
 use Rattle.moves.specs.declared.record.Listed.{Listed}
 use Rattle.tape.specs.Lines.{lineAt}
 use Rattle.ahead.specs.Ahead.{onto}
-use Rattle.steps.specs.Steps.{Task, Step, listedBy, Taken, takenFrom}
+use Rattle.taking.specs.Steps.{Task, Step, listedBy, Taken, takenFrom}
 use Rattle.ahead.specs.declared.ProgramAt.{ProgramAt}
 use Rattle.ahead.specs.declared.Frame.{Frame}
 use Rattle.ahead.specs.declared.Onward.{Onward}
 use Rattle.ahead.specs.declared.Onward.the-variants.{On, Call, Jump, Return, End, Stop}
-use Rattle.steps.specs.declared.step.Run.{Run}
+use Rattle.taking.specs.declared.step.Run.{Run}
 use Rattle.runners.specs.declared.run.Ending.{Ending}
 use Rattle.runners.specs.declared.run.Ending.the-variants.{Returned, Ended, Stopped}
 use Rattle.runners.specs.declared.run.Outcome.{Outcome}

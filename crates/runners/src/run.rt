@@ -4,10 +4,10 @@ use ahead::Frame;
 use ahead::Onward;
 use ahead::ProgramAt;
 use settings::control::Settings;
-use steps::step::Run;
+use taking::step::Run;
 ghost use mathlib.Core.Path.{_≡_};
 ghost use lib.ListN.{length};
-ghost use Rattle.steps.specs.Steps.{taskOf};
+ghost use Rattle.taking.specs.Steps.{taskOf};
 ghost use Rattle.runners.specs.Meets.{Begins, ProgramMeets, CallMeets};
 
 // How a program's run came to its end. An alarm has its number and its place.

@@ -1,3 +1,3 @@
-// One step of a run: the next block of a program is found, what it asks of the runner is looked up, and it is done.
-// (01, "Alarms and their order": "then blocks as run: 13, 14, 10, 11, 12, 15, 16, 17, 19, 18, 20".) The runners, in `runners`, know nothing of words and records.
+// One step of a run, with its records written: a step is taken, in `taking`, and the records that its block has in hand are written behind those of the blocks before it.
+// (01: "A refused block writes nothing".) The runners, in `runners`, know nothing of words and records.
 pub mod step;

@@ -11,7 +11,7 @@ use Rattle.tape.specs.declared.line.Line.{Line}
 use Rattle.tape.proofs.line.line_at.Reads as line-at-reads
 use Rattle.ahead.specs.Ahead.{FoundAt}
 use Rattle.ahead.proofs.Places.{found-within}
-use Rattle.steps.specs.Steps.{taskOf}
+use Rattle.taking.specs.Steps.{taskOf}
 use Rattle.steps.specs.Meets.{Ready}
 use Rattle.steps.proofs.step.take_step.Reads as take-step-reads
 use Rattle.runners.specs.Runs.{blocksInAll}

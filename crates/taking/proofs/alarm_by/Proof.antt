@@ -1,9 +1,9 @@
--- `steps::step::alarm_by` meets its contract.
+-- `taking::alarm_by` meets its contract.
 use mathlib.Core.Path.{ap, sym}
 use borrow.Author.Needs.{needs}
-use Rattle.steps.specs.Steps.{alarmBy}
-use Rattle.steps.proofs.step.alarm_by.Statement.{statement}
-use Rattle.steps.proofs.step.alarm_by.Tie as tie
+use Rattle.taking.specs.Steps.{alarmBy}
+use Rattle.taking.proofs.alarm_by.Statement.{statement}
+use Rattle.taking.proofs.alarm_by.Tie as tie
 
 returns : tie.Need-returns
 unfolding alarmBy

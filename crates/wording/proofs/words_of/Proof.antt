@@ -1,12 +1,12 @@
--- `steps::step::words_of` meets its contract.
+-- `wording::words_of` meets its contract.
 use mathlib.Core.Path.{ap, _∙_}
 use borrow.Author.Needs.{needs}
 use borrow.Author.Tests.{lt-ltb}
 use Rattle.block.specs.declared.words.Rest.{Rest}
-use Rattle.steps.specs.Steps.{blockIn}
-use Rattle.steps.proofs.Stepping.{words-behind}
-use Rattle.steps.proofs.step.words_of.Statement.{statement}
-use Rattle.steps.proofs.step.words_of.Tie as tie
+use Rattle.taking.specs.Steps.{blockIn}
+use Rattle.taking.proofs.Lines.{words-behind}
+use Rattle.wording.proofs.words_of.Statement.{statement}
+use Rattle.wording.proofs.words_of.Tie as tie
 
 no-words-requires : tie.Need-no-words-requires
 no-words-requires c κs = search needs

@@ -25,8 +25,8 @@ use Rattle.ahead.specs.Ahead.{onto, lookedUp}
 use Rattle.ahead.specs.declared.Frame.{Frame}
 use Rattle.ahead.specs.declared.Onward.{Onward}
 use Rattle.ahead.specs.declared.Onward.the-variants.{On, Call, Jump, Return, End, Stop}
-use Rattle.steps.specs.declared.step.Run.{Run}
-use Rattle.steps.specs.declared.step.StepDone.{StepDone}
+use Rattle.taking.specs.declared.step.Run.{Run}
+use Rattle.taking.specs.declared.step.StepDone.{StepDone}
 
 -- WHAT A RUN IS GIVEN: the tape up to where reading ended, the table, the settings, the place of the first line, and how many records have room
 pub record Task : Type 0 where
@@ -36,8 +36,12 @@ pub record Task : Type 0 where
   pub first : ℕ
   pub room : ℕ
 
+abbrev pub taskIn : List ℕ → List ℤ → Settings → ℕ → ℕ → Task
+taskIn tape table set first room = record { tape = tape; table = table; settings = set; first = first; room = room }
+
+-- with a buffer of so many bytes
 abbrev pub taskOf : List ℕ → List ℤ → Settings → ℕ → ℕ → Task
-taskOf tape table set first bytes = record { tape = tape; table = table; settings = set; first = first; room = roomOf bytes }
+taskOf tape table set first bytes = taskIn tape table set first (roomOf bytes)
 
 -- the words of a block line; one that is too long has none (no tape with such a line is run, it is alarm 7)
 unfoldable pub blockIn : List ℕ → Block

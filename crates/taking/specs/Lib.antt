@@ -1,0 +1,4 @@
+-- The definitions that the contracts of this crate cite, and those of the crates built on it.
+pub mod Steps
+pub mod Hands
+pub mod Meets
