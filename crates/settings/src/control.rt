@@ -34,21 +34,20 @@ pub struct Settings {
     pub points: bool,
 }
 
-// Whether the table has not its size, or a number out of range.
+// Whether the table has not its size, or a number out of range. All its numbers are looked at, so that the compiler compares several at once.
 fn table_wrong(table: &[i32]) -> bool
     ensures { λ r. ⌜ r ≡ tableWrong (now (table .entry)) ⌝ }
 {
     if table.len() != TABLE_SIZE {
         return true;
     }
+    let mut wrong = false;
     let mut i = 0;
-    while i < table.len() {
-        if !Position::in_table(table[i]) {
-            return true;
-        }
+    while i < TABLE_SIZE {
+        wrong = wrong | !Position::in_table(table[i]);
         i += 1;
     }
-    false
+    wrong
 }
 
 // Whether the limits of an axis or its start are wrong.
