@@ -1,0 +1,2 @@
+-- The laws of the test.
+pub mod Fit

@@ -1,0 +1,2 @@
+-- The laws of a test that tells.
+pub mod Tells
