@@ -1,0 +1,4 @@
+-- The laws of the words of a state.
+pub mod Parts
+pub mod Puts
+pub mod Giving

@@ -1,0 +1,4 @@
+-- The laws of this crate.
+pub mod Begun
+pub mod Bounded
+pub mod Meeting

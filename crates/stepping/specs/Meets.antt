@@ -1,0 +1,91 @@
+-- What is known of a turn and of an engine. It serves contracts and proofs.
+use mathlib.Core.Path.{_≡_}
+use mathlib.Core.Bool.{false}
+use mathlib.Core.List.{List, []}
+use Prim.Native.Nat.{ℕ, _≤_, _<_}
+use lib.IntN.{ℤ}
+use lib.ListN.{length, take}
+use Rattle.moves.specs.Form.{recordLimit}
+use Rattle.settings.specs.Known.{Table, InRange}
+use Rattle.settings.specs.declared.control.Settings.{Settings}
+use Rattle.finding.specs.Finds.{Finds}
+use Rattle.state.specs.Known.{Sound}
+use Rattle.stages.specs.Cursor as cursor
+use Rattle.ahead.specs.Ahead.{FoundAt}
+use Rattle.ahead.specs.declared.Frame.{Frame}
+use Rattle.ahead.specs.declared.Onward.{Onward}
+use Rattle.ahead.specs.declared.Onward.the-variants.{On, Call, Jump, Return, End, Stop}
+use Rattle.taking.specs.declared.step.Run.{Run}
+use Rattle.taking.specs.declared.step.Hand.{Hand}
+use Rattle.taking.specs.declared.step.Hand.the-variants.{Nothing, Block}
+use Rattle.taking.specs.Hands.{inHand, HandSound, Able, OpenMeets}
+use Rattle.runners.specs.Runs.{blocksInAll}
+use Rattle.resuming.specs.declared.Waiting.{Waiting}
+use Rattle.resuming.specs.Engines.{running, remaining}
+use Rattle.paused.specs.Kept.{Fitting, Kept}
+use Rattle.paused.specs.declared.Phase.{Phase}
+use Rattle.paused.specs.declared.Phase.the-variants.{Running, Over}
+use Rattle.paused.specs.declared.Going.{Going}
+use Rattle.stepping.specs.declared.Passed.{Passed}
+use Rattle.stepping.specs.declared.Turned.{Turned}
+use Rattle.returning.specs.Standing.{leftFor, taskFor, PlacedOn, Placed}
+
+-- ---- what is in hand
+-- a record, where a block is
+abbrev pub Some : Hand → Type 0
+Some Nothing = Unit {0}
+Some (Block c o) = cursor.over (c .plan) (c .due) ≡ false
+
+pub record Held (h : Hand) : Type 0 where
+  pub sound : HandSound h
+  pub some : Some h
+
+-- ---- before a turn
+-- the tape is what was read of it; nothing is asked of what the tape and the table of places hold
+pub record Fit (tape : List ℕ) (table : List ℤ) (set : Settings) (places : List ℕ) (g : Going) : Type 0 where
+  pub offsets : Table table
+  pub range : InRange set
+  pub filled : g .filled ≤ length places
+  pub read : length tape ≡ g .end
+  pub state : Sound (g .run .state)
+  pub kept : Kept g
+
+-- ---- after the blocks that were passed, and the step behind them
+pub record PassMeets (tape : List ℕ) (table : List ℤ) (set : Settings) (places : List ℕ) (count : ℕ) (f : Frame) (r : Run) (p : Passed) : Type 0 where
+  pub able : Able tape table set places count recordLimit (p .frame) (p .run)
+  pub opened : OpenMeets tape table set places count recordLimit (p .frame) (p .run) (p .opened)
+  pub program : p .frame .program ≡ f .program
+  pub calls : p .frame .«calls_left» ≡ f .«calls_left»
+  pub left : p .run .«blocks_left» ≤ r .«blocks_left»
+  pub same : (first : ℕ) → Finds (take count places) tape first → FoundAt tape first (f .program) → r .«blocks_left» ≤ blocksInAll → (fs : List Waiting)
+      → remaining (taskFor tape table set first) (running [] (f .«calls_left») (f .program) (p .frame .at) fs (p .run))
+      ≡ remaining (taskFor tape table set first) (running [] (f .«calls_left») (f .program) (f .at) fs r)
+
+-- ---- after a turn
+-- what is left is what was left, where the table of places is the tape's own and the answer's place and count have 16 bits
+pub record Lawful (tape : List ℕ) (table : List ℤ) (set : Settings) (places : List ℕ) (first : ℕ) (g : Going) (r : Turned) : Type 0 where
+  pub same : leftFor (taskFor tape table set first) (inHand (r .hand)) (r .going) ≡ leftFor (taskFor tape table set first) [] g
+  pub placed : PlacedOn (r .going .phase) tape places first (r .going)
+
+-- how much there is to do at most before a record or the end comes
+abbrev pub weight : Phase → Run → ℕ
+weight Running r = r .«blocks_left»
+weight (Over a) r = 0
+
+pub record TurnMeets (tape : List ℕ) (table : List ℤ) (set : Settings) (places : List ℕ) (g : Going) (r : Turned) : Type 0 where
+  pub lawful : (first : ℕ) → Placed tape places first g → Fitting (leftFor (taskFor tape table set first) [] g .answer) → Lawful tape table set places first g r
+  pub held : Held (r .hand)
+  pub kept : Kept (r .going)
+  pub state : Sound (r .going .run .state)
+  pub end : r .going .end ≡ g .end
+  pub filled : r .going .filled ≡ g .filled
+
+abbrev pub Nearer : Phase → Run → Run → Type 0
+Nearer Running r s = s .«blocks_left» < r .«blocks_left»
+Nearer (Over a) r s = Unit {0}
+
+-- a record is in hand, or the run is over
+abbrev pub Stands : Hand → Phase → Type 0
+Stands Nothing Running = ⊥
+Stands Nothing (Over a) = Unit {0}
+Stands (Block c o) p = Unit {0}
