@@ -1,7 +1,8 @@
-/* The interpreter of TM02 program tapes and the reader of its lists, as the control's firmware and the axis board call them. `rt staticlib board` writes it to target/staticlib/libboard.a; c/listmoves.c and c/printlist.c are examples.
+/* The interpreter of TM02 program tapes and the reader of its lists, as the control's firmware and the axis board call them. `rt staticlib board` writes it to target/staticlib/libboard.a; c/listmoves.c, c/onemove.c and c/printlist.c are examples.
    The archive is for x86-64 and C's System V calling convention, uses SSE registers, and needs memcpy and memset and nothing else. It has read-only data and no writable data. The
-   convention lets code use the 128 bytes below the stack pointer (the red zone) without moving it, and the kit cannot be told to leave them alone. The archive of this version does not touch
-   them, and c/compare looks for it: have it look at every archive that is built, before an interrupt handler shares the stack of a running call. This file needs C99 or C++. The contracts of the functions stand in
+   convention lets code use the 128 bytes below the stack pointer (the red zone) without moving it, and the kit cannot be told to leave them alone. In the archive of this version tm02_start and
+   tm02_next do so, in two inner functions, and nothing else does; c/compare looks for it: have it look at every archive that is built, before an interrupt handler shares the stack of a running
+   call, and let none that does not leave 128 bytes free share the stack of these two. This file needs C99 or C++. The contracts of the functions stand in
    crates/board/src/lib.rt, docs/ALARMS.md is the alarm card. */
 #ifndef TM02_H
 #define TM02_H
@@ -125,7 +126,7 @@ enum {
    pointer is null, not even where its length is 0; each points to as many elements as its length says; table and settings are aligned as int32_t and places as uint64_t; places and the buffer overlap none of the
    others; and nothing else writes to any of them, or reads places or the buffer, during the call.
 
-   The call takes no heap and has no data of its own. It took 16,104 bytes of stack ten calls deep, measured with the archive of this version: give it 32 KiB. A run ends after 20,000
+   The call takes no heap and has no data of its own. It took 15,880 bytes of stack ten calls deep, measured with the archive of this version: give it 32 KiB. A run ends after 20,000
    blocks at the latest: do not call it from an interrupt. */
 uint64_t tm02_interpret(const uint8_t *tape, size_t tape_len, const int32_t *table, size_t table_len,
                         const int32_t *settings, size_t settings_len, uint64_t *places, size_t places_len,
@@ -135,6 +136,52 @@ uint64_t tm02_interpret(const uint8_t *tape, size_t tape_len, const int32_t *tab
 static inline unsigned tm02_count(uint64_t answer) { return (unsigned)(answer & 0xffff); }
 static inline unsigned tm02_place(uint64_t answer) { return (unsigned)(answer >> 16 & 0xffff); }
 static inline unsigned tm02_alarm(uint64_t answer) { return (unsigned)(answer >> 32 & 0xff); }
+
+/* ONE MOVE AT A TIME, with no list and no buffer: start a run, and ask for its next record until the run is over. The run's state stands in so many words that the caller lends: 116 words, 464
+   bytes. The k-th ask, from 0, gives the list's record k, and from the list's count on every ask gives the end or the alarm that tm02_interpret gives with a buffer of TM02_BUFFER_SIZE bytes and
+   as long a table of places. Alarm 3 is never given, 22 not with TM02_MOST_PLACES places, and 20 only where a block would make the records more than TM02_RECORD_LIMIT; of a block that is at
+   fault no record is given. */
+enum { TM02_STATE_WORDS = 116 };
+
+/* What a start answers where nothing was done: state_len is not TM02_STATE_WORDS. 0 says that the run is started. */
+enum { TM02_NOT_STARTED = 1 };
+
+/* What an ask tells beside the answer, in bits 40 and 41. Neither is set where it gives a record; both never. */
+#define TM02_TOLD_OVER ((uint64_t)1 << 40)    /* the run is over: bits 0-39 are its end or alarm, as of tm02_interpret */
+#define TM02_TOLD_REFUSED ((uint64_t)1 << 41) /* nothing was done, and bits 0-39 are 0 */
+
+/* Starts a run in the lent words, whatever they hold: a new start clears what was there. The tape is read here, and the table of places filled as tm02_interpret fills it; no block is run. What
+   is at fault with the settings, the tape or the places is no answer of the start: the first ask tells it, and so does every later one.
+
+   The caller owes what it owes to tm02_interpret; state is aligned as uint32_t, and places and state overlap none of the others. */
+uint32_t tm02_start(const uint8_t *tape, size_t tape_len, const int32_t *table, size_t table_len,
+                    const int32_t *settings, size_t settings_len, uint64_t *places, size_t places_len,
+                    uint32_t *state, size_t state_len);
+
+/* The next record of a run that was started in the words, or its answer, which is repeated until a new start.
+   answer: bits 0-39 as of tm02_interpret, bit 40 TM02_TOLD_OVER, bit 41 TM02_TOLD_REFUSED. All 64 are 0 where a record was laid.
+
+   A record comes as the TM02_RECORD_SIZE bytes that it has in a list, at the front of record; TM02_AT_KIND and those behind it say where its parts begin. All other bytes of record are as they
+   came, and all of them where the answer is not a record. An arc is two records: the next ask gives its centre.
+
+   Lend each ask the same tape, table, settings and places as the start, places as the start left them, and let nothing else write to the state between two asks. An ask is refused, and then state
+   and record are as they came, where state_len is not TM02_STATE_WORDS, where record_len is below TM02_RECORD_SIZE, and where the words are none that a run can go on from with what is lent. Words
+   that no start made break nothing: they are refused, or answered as the state that they happen to be.
+
+   The caller owes what C cannot check, as above: no pointer is null, each points to as many elements as its length says and is aligned as its type, state and record overlap none of the
+   others, and nothing else writes to any of them, or reads state or record, during the call.
+
+   Neither call takes heap or has data of its own. tm02_start took 2,040 bytes of stack and tm02_next 4,920, however deep the calls of the tape are, measured with the archive of this version: give
+   them 16 KiB, and the 128 bytes below.
+   A start reads the whole tape, and an ask runs blocks until one has a record, which may be all the 20,000 of a run: do not call them from an interrupt. */
+uint64_t tm02_next(const uint8_t *tape, size_t tape_len, const int32_t *table, size_t table_len,
+                   const int32_t *settings, size_t settings_len, const uint64_t *places, size_t places_len,
+                   uint32_t *state, size_t state_len, uint8_t *record, size_t record_len);
+
+/* What an ask tells. Of an answer that is over, tm02_count, tm02_place and tm02_alarm give the parts. */
+static inline int tm02_is_record(uint64_t answer) { return (answer & (TM02_TOLD_OVER | TM02_TOLD_REFUSED)) == 0; }
+static inline int tm02_is_over(uint64_t answer) { return (answer & TM02_TOLD_OVER) != 0; }
+static inline int tm02_is_refused(uint64_t answer) { return (answer & TM02_TOLD_REFUSED) != 0; }
 
 /* A record that is read back, as so many numbers, and where each stands. Both versions are read. A list of version 1 has no program and block, and both are TM02_NONE. */
 enum {

@@ -8,7 +8,7 @@ use lib.ListN.{length}
 use Rattle.alarms.specs.Numbers.{badSettings}
 use Rattle.settings.specs.Row.{unfit, settingsOf}
 use Rattle.answers.specs.Answers.{numberOf, placeOf, countOf}
-use Rattle.interpreter.specs.Answers.{Result, refused, interpretation, placesOf, laidBy}
+use Rattle.interpreter.specs.Answers.{Result, refused, interpretation, firstInterpretation, placesOf, laidBy}
 use Rattle.answers.specs.declared.Answer.{Answer}
 use Rattle.taking.specs.Steps.{Task}
 use Rattle.demands.specs.Demands.{Owed, OwedList, TableAfter, Each, EachFrom, EveryCycle, CutIn, Threads, ThreadsIn, task}
@@ -23,6 +23,10 @@ use Rattle.alarmed.specs.Alarmed.{answered, AlarmsStand}
 -- tape, table, the settings as they came, the length of the table of places, and that of the buffer
 unfoldable pub atDoor : List ℕ → List ℤ → List ℤ → ℕ → ℕ → Result
 atDoor tape table numbers size bytes = cond (unfit numbers) (refused badSettings 0) (interpretation tape table (settingsOf numbers) size bytes)
+
+-- the same in the first layout, which knows no table of places
+unfoldable pub firstAtDoor : List ℕ → List ℤ → List ℤ → ℕ → Result
+firstAtDoor tape table numbers bytes = cond (unfit numbers) (refused badSettings 0) (firstInterpretation tape table (settingsOf numbers) bytes)
 
 abbrev pub answerAt : List ℕ → List ℤ → List ℤ → ℕ → ℕ → Answer
 answerAt tape table numbers size bytes = atDoor tape table numbers size bytes .answer

@@ -1,7 +1,9 @@
 // THE BOARD'S DOORS: what the control's firmware and the axis board, which are written in C, call. include/tm02.h declares them for C.
-// `tm02_interpret` runs a tape; `tm02_read` reads a record of a list back, and `tm02_judge` with `tm02_read_judged` a whole list in one pass.
+// `tm02_interpret` runs a tape; `tm02_start` and `tm02_next` run it one move at a time, with no list; `tm02_read` reads a record of a list back, and `tm02_judge` with `tm02_read_judged` a whole list in
+// one pass.
 // Settings come as eleven numbers and the answer goes as one. No caller has to check a number first: settings that are not eleven numbers, or of which one is out of range, are alarm 1.
 use answers::Answer;
+use onemove::Told;
 ghost use mathlib.Core.Path.{_≡_};
 ghost use Prim.Native.Nat.{_+_, _*_, _<_};
 ghost use lib.ListN.{length};
@@ -9,6 +11,7 @@ ghost use Rattle.judging.specs.Judging.{judged};
 ghost use Rattle.readback.specs.Lists.{readOf, readJudged};
 ghost use Rattle.numbered.specs.Numbers.{refusalOf, answerOf, numbersAfter};
 ghost use Rattle.board.specs.Door.{answerAt, placesAt, bufferAt, Fits, Packed};
+ghost use Rattle.board.specs.Asked.{answerNumber, over, toldNumber, StartAtDoor, NextAtDoor};
 
 // Alarm, place and count as one number.
 fn packed(alarm: u8, place: usize, count: usize) -> u64
@@ -52,6 +55,73 @@ pub extern "C" fn tm02_interpret(
         buf,
     );
     packed_answer(answer)
+}
+
+// What an ask tells, in bits 40 and 41: a record, the answer of the run, or that nothing was done.
+pub const TOLD_OVER: u64 = 1_099_511_627_776;
+
+pub const TOLD_REFUSED: u64 = 2_199_023_255_552;
+
+// What a start answers where the words are not as many as a state has.
+pub const NOT_STARTED: u32 = 1;
+
+// 16 bits have a place and a count. (Words from elsewhere may have others.)
+const SIXTEEN_BITS: usize = 65_536;
+
+fn answer_number(answer: Answer) -> u64
+    ensures { λ r. ⌜ (r ≡ answerNumber answer) × (r < over) ⌝ }
+{
+    match answer {
+        Answer::Complete(count) => packed(0, 0, count % SIXTEEN_BITS),
+        Answer::Alarm(alarm, place, count) => {
+            packed(alarm, place % SIXTEEN_BITS, count % SIXTEEN_BITS)
+        }
+    }
+}
+
+fn told_number(told: Told) -> u64
+    ensures { λ r. ⌜ r ≡ toldNumber told ⌝ }
+{
+    match told {
+        Told::Move => 0,
+        Told::Over(answer) => TOLD_OVER + answer_number(answer),
+        Told::Refused => TOLD_REFUSED,
+    }
+}
+
+// Starts a run that is asked for one move at a time, in the lent words, whatever they hold. Answers 0, or 1 where they are not as many as a state has.
+#[no_mangle]
+pub extern "C" fn tm02_start(
+    tape: &[u8],
+    table: &[i32],
+    settings: &[i32],
+    places: &mut [u64],
+    state: &mut [u32],
+) -> u32
+    ensures { λ r. ⌜ StartAtDoor (now (tape .entry)) (now (table .entry)) (now (settings .entry)) (now (places .entry)) (now (state .entry)) r (now (places .exit)) (now (state .exit)) ⌝ }
+{
+    if onemove::start(tape, table, settings, places, state) {
+        return 0;
+    }
+    NOT_STARTED
+}
+
+// The next record of a run that was started in the words, laid in 20 bytes at the front of the lent ones, or its answer, which is repeated from then on. Bits 0 to 39 are the answer as `tm02_interpret`
+// gives it; bit 40 is set where there is one, and bit 41 where nothing was done: the words are no state, or the bytes have no room for a record. All else is lent as it was at the start, and as the
+// start left it.
+#[no_mangle]
+pub extern "C" fn tm02_next(
+    tape: &[u8],
+    table: &[i32],
+    settings: &[i32],
+    places: &[u64],
+    state: &mut [u32],
+    record: &mut [u8],
+) -> u64
+    ensures { λ r. ⌜ NextAtDoor (now (tape .entry)) (now (table .entry)) (now (settings .entry)) (now (places .entry)) (now (state .entry)) (now («record» .entry)) r (now (state .exit)) (now («record» .exit)) ⌝ }
+{
+    let told = onemove::next(tape, table, settings, places, state, record);
+    told_number(told)
 }
 
 // Record number k, from 0, of a list, as seven numbers: kind, flags, X, Z, value, program, block. Answers 0, or why the list or k is refused, and then the lent numbers are as they came.

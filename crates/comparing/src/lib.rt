@@ -1,4 +1,7 @@
-// A case judged: its tape is run through the board's door with what the case gives, the listing is made of what came of it, and that is compared with the listing that is wanted.
+// A case judged: its tape is run through the board's door with what the case gives, the listing is made of what came of it, and that is compared with the listing that is wanted. Where it agrees, the
+// tape is also run one move at a time.
+pub mod asked;
+
 use answers::Answer;
 use stored::compare::Verdict;
 use stored::given::ALL;
@@ -69,6 +72,24 @@ fn judge_run(
     judge_answer(unpacked(packed), buf, want)
 }
 
+// Judges a tape by its listing, and then by its moves.
+fn judge_both(
+    tape: &[u8],
+    table: &[i32],
+    settings: &[i32],
+    places: &mut [u64],
+    buf: &mut [u8],
+    want: &[u8],
+) -> Verdict
+    ensures { λ r. ⌜ FromOne r ⌝ }
+{
+    let listed = judge_run(tape, table, settings, places, buf, want);
+    let Verdict::Agrees = listed else {
+        return listed;
+    };
+    asked::judge_moves(tape, table, settings)
+}
+
 // Lends the tape the table, the table of places and the buffer that its case asks for, and no number and no byte more.
 pub fn judge(tape: &[u8], given: [i32; ALL], want: &[u8]) -> Verdict
     ensures { λ r. ⌜ FromOne r ⌝ }
@@ -79,7 +100,7 @@ pub fn judge(tape: &[u8], given: [i32; ALL], want: &[u8]) -> Verdict
     let bytes = stored::given::bytes_of(&given);
     let held = stored::given::held_of(&given);
     let settings = settings_of(&given);
-    judge_run(
+    judge_both(
         tape,
         &given[..numbers],
         &settings,

@@ -17,7 +17,7 @@ use Rattle.paused.specs.declared.Going.{Going}
 abbrev pub nobody : Waiting
 nobody = record { program = record { number = 0; line = 0 }; after = 0; times = 0 }
 
--- a program that waits has its line and the place to go on before the end of the tape
+-- a program that waits has its line and the place to go on no further than the end of the tape
 pub record Waits (end : ℕ) (w : Waiting) : Type 0 where
   pub line : w .program .line ≤ end
   pub after : w .after ≤ end

@@ -1,9 +1,10 @@
 // Stored tapes run through the board's door with lent tables of places of several lengths (02, request 8). For each: its name and its listing, and then every entry of the table behind it, as
-// program/slot/place, or `=` where the entry is as it came.
+// program/slot/place, or `=` where the entry is as it came. Each is also run one move at a time (request 12), and a line says so where a move or the answer is another than the list's.
 // The file `stdin` holds them: a name, LF, lines of settings (`=held 3` lends a table of three entries), the tape, and byte 30. `stdout` holds what 01 and 02 say of each.
 use answers::Answer;
 use libc::STDIN_FILENO;
 use libc::STDOUT_FILENO;
+use stored::compare::Verdict;
 use stored::given::ALL;
 
 // What ends a tape in `stdin`.
@@ -74,12 +75,23 @@ fn show_listing(answer: Answer, list: &[u8]) {
     show(&text[..n]);
 }
 
+// Nothing is to be said where the moves are those of the list.
+fn show_moves(verdict: Verdict) {
+    let Verdict::Differs(line) = verdict else {
+        return;
+    };
+    show(b"ITS MOVES DIFFER at line ");
+    io::print_decimal(STDOUT_FILENO, line as u64);
+    show(b"\n");
+}
+
 // Runs a tape through the door and shows what came of it.
 fn show_lent(tape: &[u8], table: &[i32], settings: &[i32], places: &mut [u64], buf: &mut [u8]) {
     fill(places);
     let packed = board::tm02_interpret(tape, table, settings, places, buf);
     show_listing(comparing::unpacked(packed), buf);
     show_entries(places);
+    show_moves(comparing::asked::judge_moves(tape, table, settings));
 }
 
 // Lends the tape the table, the table of places and the buffer that its case asks for, and no number and no byte more.

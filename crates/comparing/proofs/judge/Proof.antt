@@ -6,14 +6,14 @@ use borrow.Author.Needs.{needs}
 use Rattle.comparing.proofs.judge.Statement.{statement}
 use Rattle.comparing.proofs.judge.Tie as tie
 
-slice-aggregate-judge-run : tie.Need-slice-aggregate-judge-run
-slice-aggregate-judge-run c = let n = c .before .before .before .before .before .before .before .numbers-of in sym (length-take-le (n .result) _ (omega (arith, n .ensures)))
+slice-aggregate-judge-both : tie.Need-slice-aggregate-judge-both
+slice-aggregate-judge-both c = let n = c .before .before .before .before .before .before .before .numbers-of in sym (length-take-le (n .result) _ (omega (arith, n .ensures)))
 
-slice-aggregate-judge-run-3 : tie.Need-slice-aggregate-judge-run-3
-slice-aggregate-judge-run-3 c = let n = c .before .before .before .before .before .held-of in sym (length-take-le (n .result) _ (omega (arith, n .ensures)))
+slice-aggregate-judge-both-3 : tie.Need-slice-aggregate-judge-both-3
+slice-aggregate-judge-both-3 c = let n = c .before .before .before .before .before .held-of in sym (length-take-le (n .result) _ (omega (arith, n .ensures)))
 
-slice-aggregate-judge-run-4 : tie.Need-slice-aggregate-judge-run-4
-slice-aggregate-judge-run-4 c =
+slice-aggregate-judge-both-4 : tie.Need-slice-aggregate-judge-both-4
+slice-aggregate-judge-both-4 c =
     let n = c .before .before .before .before .before .before .before .before .bytes-of in
     let made = c .before .before .before .before .before .before .before .before .before .before .before .before .large-buffer in
     sym (length-take-le (n .result) (made .result) (omega (arith, made .ensures, n .ensures)))
@@ -28,11 +28,11 @@ judge-spec =
     (λ c κs. search needs)
     (λ c κs. search needs)
     (λ c. search needs)
-    slice-aggregate-judge-run
+    slice-aggregate-judge-both
     (λ c. search needs)
     (λ c. search needs)
-    slice-aggregate-judge-run-3
+    slice-aggregate-judge-both-3
     (λ c. search needs)
-    slice-aggregate-judge-run-4
+    slice-aggregate-judge-both-4
     (λ c κs. search needs)
     (λ c. search needs))

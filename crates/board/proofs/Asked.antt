@@ -1,0 +1,102 @@
+-- ONE MOVE AT A TIME, at the door: the k-th ask behind a start answers with the list engine's record k, and from its count on with its end or alarm.
+-- Assumes nothing.
+use mathlib.Core.Path.{_≡_, refl, sym, ap, subst, _∙_}
+use mathlib.Core.Bool.{Bool, true, false, cond}
+use mathlib.Core.List.{List, [], _∷_}
+use Prim.Native.Nat.{ℕ, zero, suc, _+_, _*_, _%_, _≤_}
+use native.Mathlib.Omega.{arith}
+use lib.IntN.{ℤ}
+use lib.ListN.{length, replicate, length-replicate}
+use Rattle.alarms.specs.Numbers.{badSettings}
+use Rattle.places.specs.Places.{sixteenBits}
+use Rattle.reading.specs.Filling.{mostPlaces}
+use Rattle.settings.specs.Row.{unfit, settingsOf}
+use Rattle.answers.specs.Answers.{numberOf, placeOf, countOf}
+use Rattle.answers.specs.declared.Answer.{Answer}
+use Rattle.interpreter.specs.Answers.{Result, refused, interpretation, firstInterpretation}
+use Rattle.interpreter.proofs.Staying.{all-stay}
+use Rattle.resuming.specs.Handed.{Made, Left, leftOf, handedOf, roomy}
+use Rattle.resuming.specs.Handed as left
+use Rattle.resuming.specs.declared.Handed.the-variants as handed
+use Rattle.paused.specs.Kept.{Fitting}
+use Rattle.inhand.specs.State.{stateWords}
+use Rattle.onemove.specs.declared.Told.{Told}
+use Rattle.onemove.specs.declared.Told.the-variants as told
+use Rattle.onemove.specs.OneMove.{resultAt, wantedAt, Holds, Hands, InTurn}
+use Rattle.onemove.proofs.Turns.{each-in-turn}
+use Rattle.board.specs.Door.{atDoor, firstAtDoor}
+use Rattle.board.specs.Asked.{answerNumber, over, toldNumber, startNumber, StartAtDoor, NextAtDoor, AsksAtDoor, Answers, OneMoveAtDoor, OneMoveLaw}
+use Rattle.board.proofs.Doors.{demand-one-at-door}
+
+-- ---- what is wanted
+same-wanted : (tape : List ℕ) (table numbers : List ℤ) (size : ℕ) → resultAt tape table numbers size ≡ atDoor tape table numbers size roomy
+unfolding resultAt atDoor
+same-wanted tape table numbers size = refl
+
+wanted-fits : (tape : List ℕ) (table numbers : List ℤ) (places : List ℕ) → Fitting (leftOf (atDoor tape table numbers (length places) roomy) .answer)
+unfolding leftOf
+wanted-fits tape table numbers places =
+    let b : List ℕ = replicate roomy 0 in
+    let t = demand-one-at-door tape table numbers places b .0 .told in
+    subst (λ (n : ℕ). Fitting (atDoor tape table numbers (length places) n .answer)) (length-replicate {A = ℕ} roomy 0) (record { place = t .near; count = omega (arith, t .count) })
+
+-- the first layout, where the table of places is long enough
+same-long : (tape : List ℕ) (table numbers : List ℤ) (size : ℕ) → mostPlaces ≤ size → atDoor tape table numbers size roomy ≡ firstAtDoor tape table numbers roomy
+unfolding atDoor firstAtDoor
+same-long tape table numbers size h = ap (cond (unfit numbers) (refused badSettings 0)) (all-stay tape table (settingsOf numbers) size h roomy)
+
+-- ---- an ask, as a number
+packed-is : (a : Answer) → Fitting a → answerNumber a ≡ countOf a + sixteenBits * (placeOf a + sixteenBits * numberOf a)
+packed-is a f =
+    let c : countOf a % sixteenBits ≡ countOf a = omega (arith, f .count) in
+    let p : placeOf a % sixteenBits ≡ placeOf a = omega (arith, f .place) in
+    λ i. c i + sixteenBits * (p i + sixteenBits * numberOf a)
+
+-- what is handed out, and the number that tells it
+move-number : (b c : List ℕ) (r : ℕ) (t : Told) (l : Made) → Hands t b c (handed.Move l) → r ≡ toldNumber t → Answers (handed.Move l) b r c
+move-number b c r told.Move l h e = (e, h)
+move-number b c r (told.Over a) l h e = absurd h
+move-number b c r told.Refused l h e = absurd h
+
+over-number : (b c : List ℕ) (r : ℕ) (t : Told) (a : Answer) → Fitting a → Hands t b c (handed.Over a) → r ≡ toldNumber t → Answers (handed.Over a) b r c
+over-number b c r told.Move a f h e = absurd h
+over-number b c r (told.Over d) a f h e = (e ∙ ap (λ (x : Answer). over + answerNumber x) (h .0) ∙ ap (λ (n : ℕ). over + n) (packed-is a f), h .1)
+over-number b c r told.Refused a f h e = absurd h
+
+number-of : (b c : List ℕ) (r : ℕ) (t : Told) (l : List Made) (a : Answer) → Fitting a → (k : ℕ) → Hands t b c (handedOf l a k) → r ≡ toldNumber t → Answers (handedOf l a k) b r c
+unfolding handedOf
+number-of b c r t [] a f k h e = over-number b c r t a f h e
+number-of b c r t (x ∷ xs) a f zero h e = move-number b c r t x h e
+number-of b c r t (x ∷ xs) a f (suc k) h e = number-of b c r t xs a f k h e
+
+-- ---- THE PROMISE
+module _ (tape : List ℕ) (table numbers : List ℤ) (places : List ℕ) where
+  abbrev wanted : Left
+  wanted = leftOf (atDoor tape table numbers (length places) roomy)
+
+  module _ (w p : List ℕ) (r : ℕ) (state b c : ℕ → List ℕ) (tells : ℕ → ℕ) (long : length w ≡ stateWords) (s : StartAtDoor tape table numbers places w r p (state 0))
+      (asks : AsksAtDoor tape table numbers p state b c tells) where
+    begun : Holds tape table numbers p (state 0) wanted
+    begun =
+        let e = same-wanted tape table numbers (length places) in
+        subst (Holds tape table numbers p (state 0)) (ap leftOf e)
+        (s .meets .holds long (s .same) (subst (λ (x : Result). Fitting (leftOf x .answer)) (sym e) (wanted-fits tape table numbers places)))
+
+    in-turn : InTurn tape table numbers p state b c (λ k. asks .each k .told)
+    in-turn = record { room = asks .room; each = λ k. asks .each k .meets }
+
+    answers : (k : ℕ) → Answers (left.handed wanted k) (b k) (tells k) (c k)
+    answers k =
+        number-of (b k) (c k) (tells k) (asks .each k .told) (wanted .records) (wanted .answer) (wanted-fits tape table numbers places) k
+        (each-in-turn tape table numbers p k state b c (λ n. asks .each n .told) in-turn wanted begun) (asks .each k .is)
+
+    law : OneMoveAtDoor tape table numbers places w p r state b c tells
+    law =
+        record {
+          started = s .is ∙ ap startNumber (s .meets .told long);
+          same = answers;
+          long = λ h k. subst (λ (x : Result). Answers (left.handed (leftOf x) k) (b k) (tells k) (c k)) (same-long tape table numbers (length places) h) (answers k);
+        }
+
+  pub one-move-at-door : OneMoveLaw tape table numbers places
+  one-move-at-door w p r state b c tells long s asks = law w p r state b c tells long s asks

@@ -1,0 +1,176 @@
+// A tape run one move at a time (02, request 12), and each answer compared with the list of the same run: record k with the list's record k, then the end or the alarm, which is repeated. The list
+// engine is lent a buffer that has room for every list, and both a table of places that is long enough for every tape.
+use stored::compare::Verdict;
+ghost use Prim.Native.Nat.{_≤_};
+ghost use Rattle.stored.specs.Texts.{FromOne};
+
+// The buffer that has room for every list.
+const LIST: usize = moves::HEADER_SIZE + moves::RECORD_SIZE * moves::RECORD_LIMIT;
+
+// The table of places that is long enough for every tape.
+const PLACES: usize = reading::read::MOST_PLACES;
+
+// What the words of a state and the tables of places hold before: any number does.
+const UNUSED_WORD: u32 = 1;
+
+const UNUSED_PLACE: u64 = 1;
+
+// How often the answer is asked for once the run is over: it is repeated twice.
+const LAST_ASKS: usize = 3;
+
+// The first two lines of a listing: the answer's, and that of the first record.
+const ANSWER_LINE: usize = 1;
+
+const FIRST_RECORD_LINE: usize = 2;
+
+// Whether a record's bytes are those of record k of a list.
+fn is_record(list: &[u8; LIST], k: usize, record: &[u8; moves::RECORD_SIZE]) -> bool {
+    if k >= moves::RECORD_LIMIT {
+        return false;
+    }
+    let bytes = &list[..];
+    let from = moves::HEADER_SIZE + moves::RECORD_SIZE * k;
+    let to = from + moves::RECORD_SIZE;
+    stored::text::same(&bytes[from..to], record)
+}
+
+// Whether an ask tells record k of a list.
+fn tells_record(
+    tape: &[u8],
+    table: &[i32],
+    settings: &[i32],
+    places: &[u64],
+    state: &mut [u32],
+    list: &[u8; LIST],
+    k: usize,
+) -> bool {
+    let mut record = [0u8; moves::RECORD_SIZE];
+    let told = board::tm02_next(tape, table, settings, places, state, &mut record);
+    if told != 0 {
+        return false;
+    }
+    is_record(list, k, &record)
+}
+
+// How many of a list's records are told, one for each ask.
+fn records_told(
+    tape: &[u8],
+    table: &[i32],
+    settings: &[i32],
+    places: &[u64],
+    state: &mut [u32],
+    list: &[u8; LIST],
+    count: usize,
+) -> usize
+    ensures { λ r. ⌜ r ≤ count ⌝ }
+{
+    let mut k = 0;
+    while k < count {
+        if !tells_record(tape, table, settings, places, state, list, k) {
+            return k;
+        }
+        k += 1;
+    }
+    k
+}
+
+// Whether an ask tells that the run is over, and the answer that the list engine has packed.
+fn tells_answer(
+    tape: &[u8],
+    table: &[i32],
+    settings: &[i32],
+    places: &[u64],
+    state: &mut [u32],
+    packed: u64,
+) -> bool {
+    let mut record = [0u8; moves::RECORD_SIZE];
+    let told = board::tm02_next(tape, table, settings, places, state, &mut record);
+    if told < board::TOLD_OVER {
+        return false;
+    }
+    told - board::TOLD_OVER == packed
+}
+
+// Whether each ask behind the last record tells the answer.
+fn repeats_answer(
+    tape: &[u8],
+    table: &[i32],
+    settings: &[i32],
+    places: &[u64],
+    state: &mut [u32],
+    packed: u64,
+) -> bool {
+    let mut asks = 0;
+    while asks < LAST_ASKS {
+        if !tells_answer(tape, table, settings, places, state, packed) {
+            return false;
+        }
+        asks += 1;
+    }
+    true
+}
+
+// Whether a run is started in the words.
+fn is_started(
+    tape: &[u8],
+    table: &[i32],
+    settings: &[i32],
+    places: &mut [u64],
+    state: &mut [u32],
+) -> bool {
+    board::tm02_start(tape, table, settings, places, state) == 0
+}
+
+// Starts a run in the words, whatever they hold, and asks until it is over. A wrong answer differs at the line that the listing has for it.
+fn judge_asks(
+    tape: &[u8],
+    table: &[i32],
+    settings: &[i32],
+    state: &mut [u32],
+    list: &[u8; LIST],
+    packed: u64,
+) -> Verdict
+    ensures { λ r. ⌜ FromOne r ⌝ }
+{
+    let mut places = [UNUSED_PLACE; PLACES];
+    if !is_started(tape, table, settings, &mut places, state) {
+        return Verdict::Differs(ANSWER_LINE);
+    }
+    let count = (packed % 65_536) as usize;
+    let told = records_told(tape, table, settings, &places, state, list, count);
+    if told < count {
+        return Verdict::Differs(told + FIRST_RECORD_LINE);
+    }
+    if !repeats_answer(tape, table, settings, &places, state, packed) {
+        return Verdict::Differs(ANSWER_LINE);
+    }
+    Verdict::Agrees
+}
+
+// The second start finds the words of a run that is over: "a new start clears it".
+fn judge_starts(
+    tape: &[u8],
+    table: &[i32],
+    settings: &[i32],
+    list: &[u8; LIST],
+    packed: u64,
+) -> Verdict
+    ensures { λ r. ⌜ FromOne r ⌝ }
+{
+    let mut state = [UNUSED_WORD; inhand::STATE_WORDS];
+    let first = judge_asks(tape, table, settings, &mut state, list, packed);
+    let Verdict::Agrees = first else {
+        return first;
+    };
+    judge_asks(tape, table, settings, &mut state, list, packed)
+}
+
+// Makes the list of a tape, and asks for its moves one at a time.
+pub fn judge_moves(tape: &[u8], table: &[i32], settings: &[i32]) -> Verdict
+    ensures { λ r. ⌜ FromOne r ⌝ }
+{
+    let mut list = [0u8; LIST];
+    let mut places = [UNUSED_PLACE; PLACES];
+    let packed = board::tm02_interpret(tape, table, settings, &mut places, &mut list);
+    judge_starts(tape, table, settings, &list, packed)
+}
