@@ -90,7 +90,7 @@ module _ (tape : List ℕ) (table numbers : List ℤ) (places : List ℕ) where
         number-of (b k) (c k) (tells k) (asks .each k .told) (wanted .records) (wanted .answer) (wanted-fits tape table numbers places) k
         (each-in-turn tape table numbers p k state b c (λ n. asks .each n .told) in-turn wanted begun) (asks .each k .is)
 
-    law : OneMoveAtDoor tape table numbers places w p r state b c tells
+    law : OneMoveAtDoor tape table numbers places r b c tells
     law =
         record {
           started = s .is ∙ ap startNumber (s .meets .told long);

@@ -66,7 +66,7 @@ Answers (handed.Over a) b r c = (r ≡ over + (countOf a + sixteenBits * (placeO
 
 -- THE PROMISE: whatever words are lent to a start, if they are as many as a state has, the k-th ask behind it answers with the list engine's record k, and from its count on with its end or alarm, for ever;
 -- the list engine with a buffer of 64,008 bytes and a table of places of the same length, and where that is long enough for every tape the one of the first layout, which knows no such table
-pub record OneMoveAtDoor (tape : List ℕ) (table numbers : List ℤ) (places w p : List ℕ) (r : ℕ) (state b c : ℕ → List ℕ) (told : ℕ → ℕ) : Type 0 where
+pub record OneMoveAtDoor (tape : List ℕ) (table numbers : List ℤ) (places : List ℕ) (r : ℕ) (b c : ℕ → List ℕ) (told : ℕ → ℕ) : Type 0 where
   pub started : r ≡ 0
   pub same : (k : ℕ) → Answers (left.handed (leftOf (atDoor tape table numbers (length places) roomy)) k) (b k) (told k) (c k)
   pub long : mostPlaces ≤ length places → (k : ℕ) → Answers (left.handed (leftOf (firstAtDoor tape table numbers roomy)) k) (b k) (told k) (c k)
@@ -74,4 +74,4 @@ pub record OneMoveAtDoor (tape : List ℕ) (table numbers : List ℤ) (places w 
 abbrev pub OneMoveLaw : List ℕ → List ℤ → List ℤ → List ℕ → Type 0
 OneMoveLaw tape table numbers places =
     (w p : List ℕ) (r : ℕ) (state b c : ℕ → List ℕ) (told : ℕ → ℕ) → length w ≡ stateWords → StartAtDoor tape table numbers places w r p (state 0) → AsksAtDoor tape table numbers p state b c told
-    → OneMoveAtDoor tape table numbers places w p r state b c told
+    → OneMoveAtDoor tape table numbers places r b c told

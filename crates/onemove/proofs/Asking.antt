@@ -1,7 +1,7 @@
 -- What is left to hand out, along the asks.
 -- Assumes nothing.
 use mathlib.Core.Path.{_≡_, refl, sym, ap, subst, _∙_}
-use mathlib.Core.Bool.{Bool, true, false}
+use mathlib.Core.Bool.{Bool, true, false, not}
 use mathlib.Core.List.{List, [], _∷_, _++_}
 use Prim.Native.Nat.{ℕ, _+_, _-_, _≤_, _<_}
 use native.Mathlib.Omega.{arith}
@@ -31,6 +31,7 @@ use Rattle.paused.specs.declared.Phase.the-variants.{Running, Over}
 use Rattle.paused.specs.declared.Going.{Going}
 use Rattle.returning.specs.Standing.{phaseOf, standing, leftFor, taskFor, Placed, PlacedOn}
 use Rattle.starting.specs.Starts.{Ready}
+use Rattle.stepping.proofs.Handing.{none-in-hand}
 use Rattle.stepping.specs.Meets.{Held, TurnMeets}
 use Rattle.stepping.specs.declared.Turned.{Turned}
 use Rattle.inhand.specs.State.{stateWords, handIn, runIn, Given}
@@ -42,6 +43,15 @@ use Rattle.inhand.specs.State.{isEmptyIn, goingIn, GiveMeets}
 use Rattle.telling.proofs.Tells.{never}
 use Rattle.settings.specs.declared.control.Settings.{Settings}
 use Rattle.onemove.specs.OneMove.{running, Lent, Stood, Holds, Hands, Lawful, Touches, AskMeets, Refuses, NextMeets, CanGoOn, FirstMeets, Gives, MoveGiven}
+
+-- ---- a test that was turned round
+pub was-false : (b : Bool) → not b ≡ true → b ≡ false
+was-false true e = sym e
+was-false false e = refl
+
+pub was-true : (b : Bool) → not b ≡ false → b ≡ true
+was-true true e = refl
+was-true false e = sym e
 
 -- ---- what is left, with records in hand
 ahead-same : (t : Task) (g : Going) (k l : List Made) (p : Phase) → ahead t (phaseOf p) (standing k g) ≡ ahead t (phaseOf p) (standing l g)
@@ -58,10 +68,6 @@ takes-first t g x l =
 over-left : (t : Task) (g : Going) (a : Answer) → g .phase ≡ Over a → leftFor t [] g ≡ record { records = []; answer = a }
 unfolding remaining joined ahead
 over-left t g a e = λ i. joined [] (ahead t (phaseOf (e i)) (standing [] g))
-
-none-in-hand : inHand Nothing ≡ []
-unfolding inHand
-none-in-hand = refl
 
 takes-over : (x : Left) (a : Answer) → x ≡ record { records = []; answer = a } → Takes x (handed.Over a) x
 unfolding Takes

@@ -23,6 +23,7 @@ use Rattle.returning.specs.Standing.{leftFor, taskFor, PlacedOn}
 use Rattle.starting.specs.Starts.{Ready, StartMeets}
 use Rattle.starting.specs.Begun.{refusedWith}
 use Rattle.starting.proofs.Meeting.{refused-left, refused-kept, refused-sound}
+use Rattle.stepping.proofs.Handing.{none-in-hand}
 use Rattle.stepping.specs.Meets.{Held}
 use Rattle.inhand.specs.State.{stateWords, handIn, runIn, PutMeets}
 use Rattle.onemove.specs.OneMove.{resultAt, wantedAt, placesStarted, running, Lent, Stood, Holds, BegunMeets, StartsIn}
@@ -52,9 +53,6 @@ module _ (tape : List ℕ) (table numbers : List ℤ) (places : List ℕ) where
     after-is : placesOf tape table (settingsOf numbers) places roomy ≡ placesStarted tape table numbers places
     unfolding placesStarted
     after-is = rw e refl
-
-    wanted-is : leftOf (resultAt tape table numbers (length places)) ≡ wantedAt tape table numbers (length places)
-    wanted-is = refl
 
     begun-by : (g : Going) → StartMeets tape table (settingsOf numbers) places g → BegunMeets tape table numbers places g
     unfolding resultAt
@@ -86,10 +84,6 @@ module _ (tape : List ℕ) (table numbers : List ℤ) (places : List ℕ) where
   lent-same : (p : List ℕ) → length p ≡ length places → (f : Phase) (g : Going) → Lent f tape table numbers places g → Lent f tape table numbers p g
   lent-same p e Running g (u, (r, a, b)) = (u, (r, a, omega (arith, e, b)))
   lent-same p e (Over a) g l = tt
-
-  none-in-hand : inHand Nothing ≡ []
-  unfolding inHand
-  none-in-hand = refl
 
   pub started : (w : List ℕ) → length w ≡ stateWords → {g : Going} → BegunMeets tape table numbers places g → {p : List ℕ} → p ≡ placesStarted tape table numbers places → (u : List ℕ) → runIn u ≡ g
       → {v : List ℕ} → PutMeets u Nothing v → StartsIn tape table numbers places w true p v

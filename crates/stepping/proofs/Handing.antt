@@ -15,6 +15,11 @@ use Rattle.taking.specs.declared.step.Hand.the-variants.{Nothing, Block}
 use Rattle.taking.specs.Hands.{inHand, HandSound}
 use Rattle.stepping.specs.Meets.{Some, Held}
 
+-- nothing in hand has no records
+pub none-in-hand : inHand Nothing ≡ []
+unfolding inHand
+none-in-hand = refl
+
 -- nothing is left of a block that is over
 none-held : (c : Cursor) (o : Origin) → cursor.over (c .plan) (c .due) ≡ true → inHand Nothing ≡ inHand (Block c o)
 unfolding inHand stamped

@@ -123,9 +123,6 @@ module _ (tape : List ℕ) (table : List ℤ) (set : Settings) (places : List �
           ap (λ (x : ℕ). remaining (taskFor tape table set first) (running [] (f .«calls_left») (f .program) x fs (d .run))) (within-is (length tape) p on-it)
           ∙ jump-same (taskFor tape table set first) (f .program) (f .«calls_left») at s opened none (o .lawful first finds there) few fs p e)
 
-      pub pass-less : {v : Onward} → d .onward ≡ v → Falls v s (d .run)
-      pass-less {v} e = falls v e
-
     -- the step behind them
     pub passed : (x : Frame) → x ≡ onto f at → (d : Opened) → OpenMeets tape table set places count recordLimit x s d → PassMeets tape table set places count f r (record { frame = x; run = s; opened = d })
     passed x is d o =

@@ -38,6 +38,7 @@ use Rattle.returning.proofs.Finding.{gone-stays, gone-placed}
 use Rattle.stepping.specs.declared.Passed.{Passed}
 use Rattle.stepping.specs.declared.Turned.{Turned}
 use Rattle.stepping.specs.Meets.{Held, Fit, PassMeets, Lawful, TurnMeets, Nearer, Stands}
+use Rattle.stepping.proofs.Handing.{none-in-hand}
 use Rattle.stepping.proofs.Passing.{step-same}
 
 falls-le : (w : Onward) (r s : Run) → Falls w r s → s .«blocks_left» ≤ r .«blocks_left»
@@ -109,10 +110,6 @@ module _ (tape : List ℕ) (table : List ℤ) (set : Settings) (places : List �
 
     leads : (w : Onward) → done .onward ≡ w → Leads tape first w
     leads w e = subst (Leads tape first) e (law .goes)
-
-    none-in-hand : inHand Nothing ≡ []
-    unfolding inHand
-    none-in-hand = refl
 
     clear : (w : Onward) → done .onward ≡ w → Clear (listedBy step) (length tape) w
     clear On e = tt

@@ -67,11 +67,6 @@ pub record Lawful (tape : List ℕ) (table : List ℤ) (set : Settings) (places 
   pub same : leftFor (taskFor tape table set first) (inHand (r .hand)) (r .going) ≡ leftFor (taskFor tape table set first) [] g
   pub placed : PlacedOn (r .going .phase) tape places first (r .going)
 
--- how much there is to do at most before a record or the end comes
-abbrev pub weight : Phase → Run → ℕ
-weight Running r = r .«blocks_left»
-weight (Over a) r = 0
-
 pub record TurnMeets (tape : List ℕ) (table : List ℤ) (set : Settings) (places : List ℕ) (g : Going) (r : Turned) : Type 0 where
   pub lawful : (first : ℕ) → Placed tape places first g → Fitting (leftFor (taskFor tape table set first) [] g .answer) → Lawful tape table set places first g r
   pub held : Held (r .hand)
@@ -80,6 +75,7 @@ pub record TurnMeets (tape : List ℕ) (table : List ℤ) (set : Settings) (plac
   pub end : r .going .end ≡ g .end
   pub filled : r .going .filled ≡ g .filled
 
+-- a run that goes on has fewer blocks left to begin
 abbrev pub Nearer : Phase → Run → Run → Type 0
 Nearer Running r s = s .«blocks_left» < r .«blocks_left»
 Nearer (Over a) r s = Unit {0}

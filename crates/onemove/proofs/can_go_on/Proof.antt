@@ -10,16 +10,9 @@ use borrow.Author.Tests.{ltb-true, lt-ltb, leb-true, le-leb}
 use Rattle.telling.proofs.Tells.{Tells, tells-no, told-no, never}
 use Rattle.paused.specs.Kept.{Kept}
 use Rattle.onemove.specs.OneMove.{CanGoOn}
+use Rattle.onemove.proofs.Asking.{was-false, was-true}
 use Rattle.onemove.proofs.can_go_on.Statement.{statement}
 use Rattle.onemove.proofs.can_go_on.Tie as tie
-
-was-false : (b : Bool) → not b ≡ true → b ≡ false
-was-false true e = sym e
-was-false false e = refl
-
-was-true : (b : Bool) → not b ≡ false → b ≡ true
-was-true true e = refl
-was-true false e = sym e
 
 both : (a b : Bool) → a && b ≡ true → (a ≡ true) × (b ≡ true)
 both true true e = (refl, refl)

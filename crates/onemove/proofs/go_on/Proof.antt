@@ -19,17 +19,9 @@ use Rattle.runwords.specs.Taken.{goingOf}
 use Rattle.runwords.proofs.Keeping.{kept-small}
 use Rattle.paused.specs.declared.Going.{Going}
 use Rattle.inhand.specs.State.{runIn}
-use Rattle.onemove.proofs.Asking.{to-end, run-is, unfit-ask, wrong-ask, cannot-ask, turned-ask}
+use Rattle.onemove.proofs.Asking.{was-false, was-true, to-end, run-is, unfit-ask, wrong-ask, cannot-ask, turned-ask}
 use Rattle.onemove.proofs.go_on.Statement.{statement}
 use Rattle.onemove.proofs.go_on.Tie as tie
-
-was-false : (b : Bool) → not b ≡ true → b ≡ false
-was-false true e = sym e
-was-false false e = refl
-
-was-true : (b : Bool) → not b ≡ false → b ≡ true
-was-true true e = refl
-was-true false e = sym e
 
 -- the run that the words have
 module _ (k : tie.After-going-of) where

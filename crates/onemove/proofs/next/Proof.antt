@@ -12,17 +12,9 @@ use Rattle.runwords.specs.Taken.{phaseOf}
 use Rattle.paused.specs.declared.Phase.{Phase}
 use Rattle.taking.specs.declared.step.Hand.the-variants.{Nothing}
 use Rattle.inhand.specs.State.{stateWords, handIn, runIn, isEmptyIn}
-use Rattle.onemove.proofs.Asking.{to-end, empty-hand, run-phase, given-ask, not-given-ask, over-ask, next-other, next-short, next-asks}
+use Rattle.onemove.proofs.Asking.{was-false, was-true, to-end, empty-hand, run-phase, given-ask, not-given-ask, over-ask, next-other, next-short, next-asks}
 use Rattle.onemove.proofs.next.Statement.{statement}
 use Rattle.onemove.proofs.next.Tie as tie
-
-was-false : (b : Bool) → not b ≡ true → b ≡ false
-was-false true e = sym e
-was-false false e = refl
-
-was-true : (b : Bool) → not b ≡ false → b ≡ true
-was-true true e = refl
-was-true false e = sym e
 
 -- words and bytes that may be asked
 module _ (e : tie.Else2) where
