@@ -28,15 +28,14 @@ pub fn put_record(part: &mut [u8], what: Record, origin: Origin)
     requires { ⌜ recordSize ≤ length (now part) ⌝ }
     ensures { λ _. ⌜ now (part .exit) ≡ laid (now (part .entry)) 0 (recordBytes (listed origin what)) ⌝ }
 {
-    let x = whole::bytes::bytes_of_i32(what.x);
-    let z = whole::bytes::bytes_of_i32(what.z);
-    let value = whole::bytes::bytes_of_u32(what.value);
+    let kind = whole::bytes::u32_of_bytes([what.kind, what.flags, 0, 0]);
+    let x = whole::bytes::word_of(what.x);
+    let z = whole::bytes::word_of(what.z);
     let program = whole::bytes::bytes_of_u16(origin.program);
     let block = whole::bytes::bytes_of_u16(origin.block);
-    whole::bytes::put_four(part, crate::AT_KIND, [what.kind, what.flags, 0, 0]);
-    whole::bytes::put_four(part, crate::AT_X, x);
-    whole::bytes::put_four(part, crate::AT_Z, z);
-    whole::bytes::put_four(part, crate::AT_VALUE, value);
+    // X stands behind the kind and the flags, and the value behind Z.
+    whole::bytes::put_eight(part, crate::AT_KIND, whole::bytes::joined(kind, x));
+    whole::bytes::put_eight(part, crate::AT_Z, whole::bytes::joined(z, what.value));
     whole::bytes::put_four(
         part,
         crate::AT_PROGRAM,

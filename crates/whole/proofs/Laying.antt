@@ -63,6 +63,32 @@ four-laid b at (w0 ∷ (w1 ∷ (w2 ∷ (w3 ∷ [])))) h k =
     ∙ append-assoc (take at b) (w0 ∷ (w1 ∷ (w2 ∷ (w3 ∷ [])))) (drop (at + 4) b)
 four-laid b at (w0 ∷ (w1 ∷ (w2 ∷ (w3 ∷ (w4 ∷ w))))) h k = absurd (omega arith)
 
+-- eight bytes stored one after the other
+pub eight-laid : (b : List ℕ) (at : ℕ) (w : List ℕ) → length w ≡ 8 → at + 8 ≤ length b
+    → set (set (set (set (set (set (set (set b at (getD w 0 0)) (at + 1) (getD w 1 0)) (at + 2) (getD w 2 0)) (at + 3) (getD w 3 0)) (at + 4) (getD w 4 0)) (at + 5) (getD w 5 0)) (at + 6) (getD w 6 0)) (at + 7) (getD w 7 0)
+    ≡ laid b at w
+unfolding laid
+eight-laid b at [] h k = absurd (omega arith)
+eight-laid b at (w0 ∷ []) h k = absurd (omega arith)
+eight-laid b at (w0 ∷ (w1 ∷ [])) h k = absurd (omega arith)
+eight-laid b at (w0 ∷ (w1 ∷ (w2 ∷ []))) h k = absurd (omega arith)
+eight-laid b at (w0 ∷ (w1 ∷ (w2 ∷ (w3 ∷ [])))) h k = absurd (omega arith)
+eight-laid b at (w0 ∷ (w1 ∷ (w2 ∷ (w3 ∷ (w4 ∷ []))))) h k = absurd (omega arith)
+eight-laid b at (w0 ∷ (w1 ∷ (w2 ∷ (w3 ∷ (w4 ∷ (w5 ∷ [])))))) h k = absurd (omega arith)
+eight-laid b at (w0 ∷ (w1 ∷ (w2 ∷ (w3 ∷ (w4 ∷ (w5 ∷ (w6 ∷ []))))))) h k = absurd (omega arith)
+eight-laid b at (w0 ∷ (w1 ∷ (w2 ∷ (w3 ∷ (w4 ∷ (w5 ∷ (w6 ∷ (w7 ∷ [])))))))) h k =
+    let one : at + 1 ≡ suc at = omega arith in
+    let two : at + 2 ≡ suc (suc at) = omega arith in
+    let three : at + 3 ≡ suc (suc (suc at)) = omega arith in
+    let four : at + 4 ≡ suc (suc (suc (suc at))) = omega arith in
+    let five : at + 5 ≡ suc (suc (suc (suc (suc at)))) = omega arith in
+    let six : at + 6 ≡ suc (suc (suc (suc (suc (suc at))))) = omega arith in
+    let seven : at + 7 ≡ suc (suc (suc (suc (suc (suc (suc at)))))) = omega arith in
+    (λ i. set (set (set (set (set (set (set (set b at w0) (one i) w1) (two i) w2) (three i) w3) (four i) w4) (five i) w5) (six i) w6) (seven i) w7)
+    ∙ sets-eq (w0 ∷ (w1 ∷ (w2 ∷ (w3 ∷ (w4 ∷ (w5 ∷ (w6 ∷ (w7 ∷ [])))))))) b at k
+    ∙ append-assoc (take at b) (w0 ∷ (w1 ∷ (w2 ∷ (w3 ∷ (w4 ∷ (w5 ∷ (w6 ∷ (w7 ∷ [])))))))) (drop (at + 8) b)
+eight-laid b at (w0 ∷ (w1 ∷ (w2 ∷ (w3 ∷ (w4 ∷ (w5 ∷ (w6 ∷ (w7 ∷ (w8 ∷ w))))))))) h k = absurd (omega arith)
+
 -- bytes laid where others end are laid with them
 pub laid-on : (b : List ℕ) (at : ℕ) (v w : List ℕ) (n : ℕ) → at + length v ≡ n → n ≤ length b → laid (laid b at v) n w ≡ laid b at (v ++ w)
 laid-on b at v w n e h =

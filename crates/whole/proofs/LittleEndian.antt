@@ -1,9 +1,9 @@
 -- Bytes, there and back: one law over the number of bytes, and the sign.
 -- Assumes nothing.
 use mathlib.Core.Path.{_≡_, refl, ap, _∙_}
-use mathlib.Core.List.{List, [], _∷_}
+use mathlib.Core.List.{List, [], _∷_, _++_}
 use Prim.Native.Nat.{ℕ, zero, suc, _+_, _-_, _*_, _/_, _%_, _^_, _<_}
-use native.Mathlib.Nat.{div-lt-iff-lt-mul, pow-suc}
+use native.Mathlib.Nat.{div-lt-iff-lt-mul, pow-suc, zero-add, mul-comm, mul-assoc}
 use native.Mathlib.Omega.{arith}
 use lib.IntN.{ℤ, pos, negsuc}
 use lib.ListN.{length, getD}
@@ -21,6 +21,27 @@ length-little (suc k) n = ap suc (length-little k (n / 256))
 pub read-back : (k n : ℕ) → n < 256 ^ k → valueOf (littleEndian k n) ≡ n
 read-back zero n h = omega (arith, h)
 read-back (suc k) n h = let e = read-back k (n / 256) (div-lt-iff-lt-mul {k = 256} {x = n} {y = 256 ^ k} (omega arith) .1 (omega (arith, h, pow-suc 256 k))) in omega arith
+
+-- two numbers that are joined are written one behind the other
+pub joined-bytes : (j k a b : ℕ) → a < 256 ^ j → littleEndian (j + k) (a + 256 ^ j * b) ≡ littleEndian j a ++ littleEndian k b
+joined-bytes zero k a b h = (λ i. littleEndian (zero-add k i) (none i))
+  where
+    none : a + 256 ^ 0 * b ≡ b
+    none = omega (arith, h)
+joined-bytes (suc j) k a b h =
+    let n : ℕ = a + 256 ^ suc j * b in
+    let c : ℕ = 256 ^ j * b in
+    let whole : 256 ^ suc j * b ≡ 256 * c = ap (λ (m : ℕ). m * b) (pow-suc 256 j) ∙ assoc j b in
+    let low : n % 256 ≡ a % 256 = omega (arith, whole) in
+    let high : n / 256 ≡ a / 256 + c = omega (arith, whole) in
+    let small : a / 256 < 256 ^ j = div-lt-iff-lt-mul {k = 256} {x = a} {y = 256 ^ j} (omega arith) .1 (omega (arith, h, pow-suc 256 j)) in
+    ap (λ (m : ℕ). littleEndian m n) (suc-add j k) ∙ (λ i. low i ∷ littleEndian (j + k) (high i)) ∙ ap (λ (l : List ℕ). a % 256 ∷ l) (joined-bytes j k (a / 256) b small)
+  where
+    suc-add : (j k : ℕ) → suc j + k ≡ suc (j + k)
+    suc-add j k = omega arith
+
+    assoc : (j b : ℕ) → (256 ^ j * 256) * b ≡ 256 * (256 ^ j * b)
+    assoc j b = ap (λ (m : ℕ). m * b) (mul-comm (256 ^ j) 256) ∙ mul-assoc 256 (256 ^ j) b
 
 -- bytes are written back from the number that they stand for
 abbrev pub AllBytes : List ℕ → Type 0
@@ -51,7 +72,7 @@ signed-word (pos n) f = rw (lt-ltb n (2 ^ 31) (f .sfits))
 signed-word (negsuc n) f =
     rw (le-ltb (2 ^ 32 - suc n) (2 ^ 31) (omega (arith, f .sfits))) (omega (whole, range f, sub-in (pos (2 ^ 32 - suc n)) (pos (2 ^ 32))))
 
-word-fits : (z : ℤ) → SFits w32 z → wordOf z < 2 ^ 32
+pub word-fits : (z : ℤ) → SFits w32 z → wordOf z < 2 ^ 32
 word-fits (pos n) f = omega (arith, f .sfits)
 word-fits (negsuc n) f = omega arith
 
