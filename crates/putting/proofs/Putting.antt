@@ -29,26 +29,40 @@ module _ {o : Origin} {b₀ : List ℕ} {first : ℕ} {c : List Record} (room : 
   pub written-length : length b ≡ length b₀
   written-length = ap length (w .buffer) ∙ length-laid b₀ first (rowFrom o (w .done)) (omega (arith, length-from o (w .done), count, room))
 
+  -- some records more
+  module _ (rs rest : List Record) (e : now ≡ rs ++ rest) where
+    more : length now ≡ length rs + length rest
+    more = ap length e ∙ length-append rs rest
+
+    pub some-less : 0 < length rs → length rest < length now
+    some-less h = omega (arith, more, h)
+
+    pub some-room : at + recordSize * length rs ≤ length b
+    some-room = omega (arith, written-length, w .place, count, more, room)
+
+    pub some-written : {u : List ℕ} → u ≡ laid b at (rowFrom o rs) → Written o b₀ first c u rest (at + recordSize * length rs)
+    some-written h = record {
+      done = w .done ++ rs;
+      same = w .same ∙ ap (λ (l : List Record). w .done ++ l) e ∙ sym (append-assoc (w .done) rs rest);
+      place = omega (arith, w .place, length-append (w .done) rs);
+      buffer = h ∙ (λ i. laid (w .buffer i) at (rowFrom o rs))
+          ∙ laid-on b₀ first (rowFrom o (w .done)) (rowFrom o rs) at (omega (arith, w .place, length-from o (w .done))) (omega (arith, w .place, count, more, room))
+          ∙ ap (laid b₀ first) (sym (from-append o (w .done) rs));
+    }
+
   -- one record more
   module _ (r : Record) (rest : List Record) (e : now ≡ r ∷ rest) where
-    one : length now ≡ suc (length rest)
-    one = ap length e
-
     pub rest-less : length rest < length now
-    rest-less = omega (arith, one)
+    rest-less = some-less (r ∷ []) rest e (omega arith)
 
     pub written-room : at + recordSize ≤ length b
-    written-room = omega (arith, written-length, w .place, count, one, room)
+    written-room = some-room (r ∷ []) rest e
 
     pub one-written : {u : List ℕ} → u ≡ laid b at (recordBytes (listed o r)) → Written o b₀ first c u rest (at + recordSize)
-    one-written h = record {
-      done = w .done ++ (r ∷ []);
-      same = w .same ∙ ap (λ (l : List Record). w .done ++ l) e ∙ sym (append-assoc (w .done) (r ∷ []) rest);
-      place = omega (arith, w .place, length-append (w .done) (r ∷ []));
-      buffer = h ∙ (λ i. laid (w .buffer i) at (from-one o r i))
-          ∙ laid-on b₀ first (rowFrom o (w .done)) (rowFrom o (r ∷ [])) at (omega (arith, w .place, length-from o (w .done))) (omega (arith, w .place, count, one, room))
-          ∙ ap (laid b₀ first) (sym (from-append o (w .done) (r ∷ [])));
-    }
+    one-written h = some-written (r ∷ []) rest e (h ∙ ap (laid b at) (from-one o r))
 
   pub all-written : now ≡ [] → b ≡ laid b₀ first (rowFrom o c)
   all-written e = w .buffer ∙ ap (λ (l : List Record). laid b₀ first (rowFrom o l)) (sym (w .same ∙ ap (λ (l : List Record). w .done ++ l) e ∙ append-nil (w .done)))
+
+  pub written-end : now ≡ [] → at ≡ first + recordSize * length c
+  written-end e = omega (arith, w .place, count, ap length e)

@@ -2,7 +2,7 @@
 -- Assumes nothing.
 use mathlib.Core.Path.{_≡_, refl, sym, ap, subst, _∙_}
 use mathlib.Core.Bool.{true, false}
-use mathlib.Core.List.{[], _∷_}
+use mathlib.Core.List.{List, [], _∷_}
 use Prim.Native.Nat.{ℕ, zero, suc, _+_, _<_}
 use native.Mathlib.Omega.{arith}
 use lib.Dec.{eqb}
@@ -25,11 +25,15 @@ use Rattle.turning.specs.declared.cycle.Turning.{Turning}
 use Rattle.turning.specs.declared.cursor.Stage.{Stage}
 use Rattle.turning.specs.declared.cursor.Stage.the-variants.{In, Cut, Out, Back}
 use Rattle.turning.specs.declared.cursor.Cursor.{Cursor}
+use Rattle.turning.specs.declared.cursor.Passed.{Passed}
 use Rattle.turning.specs.Turning.{tooShort, passCount, row, passFor, passOn, passes, turning}
-use Rattle.turning.specs.Cursor.{restAt, restOf, overAt, over, at, Sound, Makes}
+use Rattle.turning.specs.Cursor.{restAt, restOf, overAt, over, beforeAt, beforePass, at, Sound, Makes, MakesPass}
 use Rattle.turning.proofs.Asked.{long-enough}
 use Rattle.turning.proofs.Counts.{Stands, apart}
 use Rattle.turning.proofs.Turned.{some-passes}
+
+never : false ≡ true → ⊥
+never e = let z : _≡_ {A = ℕ} 0 1 = cc in omega arith
 
 -- ---- a cycle that is opened
 abbrev opened : Turning → Pieces → Cursor
@@ -52,12 +56,15 @@ module _ (c : Cursor) {now : Stage} (sound : Sound c) (stage : c .stage ≡ now)
   here = ap (λ (s : Stage). restAt s c) stage
 
   -- within a pass: of the records from a stage on, the first
-  pub within : (s : Stage) {r made : Record} {rest : Cursor} → restAt now c ≡ r ∷ restAt s (at c s) → made ≡ r → rest ≡ at c s → Makes c made rest
+  pub within : (s : Stage) {r made : Record} {rest : Cursor} → restAt now c ≡ r ∷ restAt s (at c s) → made ≡ r → rest ≡ at c s → Makes c made rest × (rest .stage ≡ s)
   unfolding restOf
-  within s e m b = record {
-    first = here ∙ e ∙ (λ i. sym m i ∷ restOf (sym b i));
-    sound = subst Sound (sym b) (record { small = sound .small; reach = sound .reach });
-  }
+  within s e m b = (
+    record {
+      first = here ∙ e ∙ (λ i. sym m i ∷ restOf (sym b i));
+      sound = subst Sound (sym b) (record { small = sound .small; reach = sound .reach });
+    },
+    ap (λ (k : Cursor). k .stage) b,
+  )
 
 -- a pass more
 module _ (c : Cursor) (sound : Sound c) {d : ℕ} (ds : Pieces) (row : rowOf (c .depths) ≡ d ∷ rowOf ds) where
@@ -81,22 +88,40 @@ module _ (c : Cursor) (sound : Sound c) {d : ℕ} (ds : Pieces) (row : rowOf (c 
   }
 
   pub goes-in : c .stage ≡ In → {line : ℤ} {made : Record} {rest : Cursor} → line ≡ lineNext
-      → made ≡ rapidTo (c .pass .facing) line (c .pass .home) → rest ≡ deeper line → Makes c made rest
+      → made ≡ rapidTo (c .pass .facing) line (c .pass .home) → rest ≡ deeper line → Makes c made rest × (rest .stage ≡ Cut)
   unfolding restOf restAt passes passOn
-  goes-in stage l m b = record {
-    first = here c sound stage ∙ ap (passes (passOn (c .pass)) (c .side) (c .line)) row
-        ∙ (λ i. rapidTo (c .pass .facing) (sym l i) (c .pass .home) ∷ restOf (deeper (sym l i)))
-        ∙ (λ i. sym m i ∷ restOf (sym b i));
-    sound = subst Sound (sym (b ∙ ap deeper l)) deeper-sound;
-  }
+  goes-in stage l m b = (
+    record {
+      first = here c sound stage ∙ ap (passes (passOn (c .pass)) (c .side) (c .line)) row
+          ∙ (λ i. rapidTo (c .pass .facing) (sym l i) (c .pass .home) ∷ restOf (deeper (sym l i)))
+          ∙ (λ i. sym m i ∷ restOf (sym b i));
+      sound = subst Sound (sym (b ∙ ap deeper l)) deeper-sound;
+    },
+    ap (λ (k : Cursor). k .stage) b,
+  )
+
+-- ---- a whole pass
+before-in : (s : Stage) → beforeAt s ≡ true → s ≡ In
+before-in In e = refl
+before-in Cut e = absurd (never e)
+before-in Out e = absurd (never e)
+before-in Back e = absurd (never e)
+
+pub no-pass-begun : (c : Cursor) → beforePass c ≡ true → c .stage ≡ In
+no-pass-begun c e = before-in (c .stage) e
+
+-- four records, one behind the other
+pub four-make : {c k l m : Cursor} {p : Passed} → Makes c (p .inward) k → Makes k (p .along) l → Makes l (p .outward) m → Makes m (p .home) (p .rest) → p .rest .stage ≡ In → MakesPass c p
+four-make {p = p} a b d e stage = record {
+  first = a .first ∙ ap (λ (l : List Record). p .inward ∷ l) (b .first ∙ ap (λ (l : List Record). p .along ∷ l) (d .first ∙ ap (λ (l : List Record). p .outward ∷ l) (e .first)));
+  sound = e .sound;
+  before = ap beforeAt stage;
+}
 
 -- ---- none is left
 pub over-at : (c : Cursor) {now : Stage} → c .stage ≡ now → over c ≡ overAt now c
 unfolding over
 over-at c e = ap (λ (s : Stage). overAt s c) e
-
-never : false ≡ true → ⊥
-never e = let z : _≡_ {A = ℕ} 0 1 = cc in omega arith
 
 none-at : (s : Stage) (c : Cursor) → overAt s c ≡ true → restAt s c ≡ []
 unfolding restAt passes

@@ -1,7 +1,7 @@
 -- WHAT IS LEFT OF A TURNING CYCLE that is opened: the records of the present pass that are still to come, and the passes behind it.
 use mathlib.Core.Path.{_≡_}
-use mathlib.Core.Bool.{Bool, false}
-use mathlib.Core.List.{List, _∷_}
+use mathlib.Core.Bool.{Bool, true, false}
+use mathlib.Core.List.{List, [], _∷_, _++_}
 use Prim.Native.Nat.{_<_, _^_}
 use lib.Dec.{eqb}
 use lib.IntN.{_+ℤ_}
@@ -16,6 +16,7 @@ use Rattle.turning.specs.Turning.{passOn, passes}
 use Rattle.turning.specs.declared.cursor.Stage.{Stage}
 use Rattle.turning.specs.declared.cursor.Stage.the-variants.{In, Cut, Out, Back}
 use Rattle.turning.specs.declared.cursor.Cursor.{Cursor}
+use Rattle.turning.specs.declared.cursor.Passed.{Passed}
 
 -- ---- the records that are left
 -- the passes behind the present one, each from the line of the one before
@@ -51,6 +52,16 @@ overAt Back c = false
 unfoldable pub over : Cursor → Bool
 over c = overAt (c .stage) c
 
+-- no pass is begun
+abbrev pub beforeAt : Stage → Bool
+beforeAt In = true
+beforeAt Cut = false
+beforeAt Out = false
+beforeAt Back = false
+
+abbrev pub beforePass : Cursor → Bool
+beforePass c = beforeAt (c .stage)
+
 -- ---- what the contracts say
 -- the same pass at another stage
 abbrev pub at : Cursor → Stage → Cursor
@@ -65,3 +76,13 @@ pub record Sound (c : Cursor) : Type 0 where
 pub record Makes (c : Cursor) (made : Record) (behind : Cursor) : Type 0 where
   pub first : restOf c ≡ made ∷ restOf behind
   pub sound : Sound behind
+
+-- the records of a pass, in their order
+abbrev pub passRow : Passed → List Record
+passRow p = p .inward ∷ p .along ∷ p .outward ∷ p .home ∷ []
+
+-- a pass: the first of what is left, and a cursor that has the others and has begun no other pass
+pub record MakesPass (c : Cursor) (p : Passed) : Type 0 where
+  pub first : restOf c ≡ passRow p ++ restOf (p .rest)
+  pub sound : Sound (p .rest)
+  pub before : beforePass (p .rest) ≡ true

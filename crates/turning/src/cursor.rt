@@ -6,11 +6,11 @@ use division::Pieces;
 use moves::record::Record;
 use whole::signed::Side;
 ghost use mathlib.Core.Path.{_≡_};
-ghost use mathlib.Core.Bool.{false};
+ghost use mathlib.Core.Bool.{true, false};
 ghost use Prim.Native.Nat.{_<_};
 ghost use Rattle.turning.specs.Turning.{tooShort, turning};
 ghost use Rattle.turning.specs.declared.cursor.Stage.the-variants.{In, Cut, Out, Back};
-ghost use Rattle.turning.specs.Cursor.{restOf, over, at, Sound, Makes};
+ghost use Rattle.turning.specs.Cursor.{restOf, over, beforePass, at, Sound, Makes, MakesPass};
 
 // Which record of a pass comes next. 01: "rapid X to the pass line; feed Z to the end line; feed X to the start X; rapid Z to the start Z".
 pub enum Stage {
@@ -31,6 +31,15 @@ pub struct Cursor {
 
 pub struct Handed {
     pub record: Record,
+    pub rest: Cursor,
+}
+
+// A pass as a whole: its four records, and what is left behind them.
+pub struct Passed {
+    pub inward: Record,
+    pub along: Record,
+    pub outward: Record,
+    pub home: Record,
     pub rest: Cursor,
 }
 
@@ -102,7 +111,7 @@ fn at_stage(c: Cursor, stage: Stage) -> Cursor
 // "rapid X to the pass line": the line before it, and one piece of the division more.
 fn go_in(c: Cursor) -> Handed
     requires { ⌜ Sound c × (c .stage ≡ In) × (0 < c .depths .left) ⌝ }
-    ensures { λ r. ⌜ Makes c (r .record) (r .rest) ⌝ }
+    ensures { λ r. ⌜ Makes c (r .record) (r .rest) × (r .rest .stage ≡ Cut) ⌝ }
 {
     let pass = c.pass;
     let side = c.side;
@@ -124,7 +133,7 @@ fn go_in(c: Cursor) -> Handed
 // "feed Z to the end line"
 fn cut(c: Cursor) -> Handed
     requires { ⌜ Sound c × (c .stage ≡ Cut) ⌝ }
-    ensures { λ r. ⌜ Makes c (r .record) (r .rest) ⌝ }
+    ensures { λ r. ⌜ Makes c (r .record) (r .rest) × (r .rest .stage ≡ Out) ⌝ }
 {
     let pass = c.pass;
     let record = axes::goes::feed_to(pass.facing, pass.f, pass.g95, c.line, pass.end);
@@ -135,7 +144,7 @@ fn cut(c: Cursor) -> Handed
 // "feed X to the start X"
 fn go_out(c: Cursor) -> Handed
     requires { ⌜ Sound c × (c .stage ≡ Out) ⌝ }
-    ensures { λ r. ⌜ Makes c (r .record) (r .rest) ⌝ }
+    ensures { λ r. ⌜ Makes c (r .record) (r .rest) × (r .rest .stage ≡ Back) ⌝ }
 {
     let pass = c.pass;
     let record = axes::goes::feed_to(pass.facing, pass.f, pass.g95, pass.from, pass.end);
@@ -146,10 +155,49 @@ fn go_out(c: Cursor) -> Handed
 // "rapid Z to the start Z"
 fn go_back(c: Cursor) -> Handed
     requires { ⌜ Sound c × (c .stage ≡ Back) ⌝ }
-    ensures { λ r. ⌜ Makes c (r .record) (r .rest) ⌝ }
+    ensures { λ r. ⌜ Makes c (r .record) (r .rest) × (r .rest .stage ≡ In) ⌝ }
 {
     let pass = c.pass;
     let record = axes::goes::rapid_to(pass.facing, pass.from, pass.home);
     let rest = at_stage(c, Stage::In);
     Handed { record, rest }
+}
+
+// Whether the next record, if there is one, is the first of a pass.
+pub fn is_before_pass(c: Cursor) -> bool
+    ensures { λ r. ⌜ r ≡ beforePass c ⌝ }
+{
+    let stage = c.stage;
+    match stage {
+        Stage::In => true,
+        Stage::Cut => false,
+        Stage::Out => false,
+        Stage::Back => false,
+    }
+}
+
+// The four records of a pass at once, where its first is the next.
+pub fn next_pass(c: Cursor) -> Passed
+    requires { ⌜ Sound c × (beforePass c ≡ true) × (over c ≡ false) ⌝ }
+    ensures { λ r. ⌜ MakesPass c r ⌝ }
+{
+    let first = go_in(c);
+    let inward = first.record;
+    let at_line = first.rest;
+    let second = cut(at_line);
+    let along = second.record;
+    let at_end = second.rest;
+    let third = go_out(at_end);
+    let outward = third.record;
+    let outside = third.rest;
+    let fourth = go_back(outside);
+    let home = fourth.record;
+    let rest = fourth.rest;
+    Passed {
+        inward,
+        along,
+        outward,
+        home,
+        rest,
+    }
 }

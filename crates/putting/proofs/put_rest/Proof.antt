@@ -1,15 +1,19 @@
--- `putting::put_rest` meets its contract. The loop's invariant: some records are written, and what is due has the others. The measure is how many are left.
+-- `putting::put_rest` meets its contract. The loop's invariant: some records are written, and what is due has the others. The measure is how many are left, and whether a turning cycle is due.
 use borrow.Author.Needs.{needs}
-use mathlib.Core.Path.{_≡_, refl, sym, _∙_}
+use mathlib.Core.Path.{_≡_, refl, sym, ap, _∙_}
 use mathlib.Core.Bool.{Bool, true, false, not}
-use Prim.Native.Nat.{_+_, _≤_}
+use mathlib.Core.List.{_++_}
+use Prim.Native.Nat.{_+_, _*_, _≤_}
 use native.Mathlib.Omega.{arith}
 use lib.ListN.{length}
 use Rattle.whole.proofs.Laying.{lent}
 use Rattle.moves.specs.Form.{recordSize, recordBytes, listed}
 use Rattle.stages.specs.Cursor.{restOf, Sound}
+use Rattle.stages.specs.declared.cursor.Due.the-variants.{Single}
 use Rattle.handing.proofs.Cursors.{rest-none}
-use Rattle.putting.proofs.Putting.{Written, none-written, one-written, all-written, written-room, written-length, rest-less}
+use Rattle.putting.specs.Passes.{unbegun, turningRow}
+use Rattle.putting.proofs.Putting.{Written, none-written, one-written, some-written, all-written, written-room, some-room, written-length, rest-less}
+use Rattle.putting.proofs.Passing.{behind-it, turning-first, weight, lighter, weight-few}
 use Rattle.putting.proofs.put_rest.Statement.{statement}
 use Rattle.putting.proofs.put_rest.Tie as tie
 
@@ -17,7 +21,7 @@ abbrev Inv-loop : tie.InvT-loop
 Inv-loop buf₀ first origin plan due₀ at₀ buf due at = Sound plan due × Written origin buf₀ first (restOf plan due₀) buf (restOf plan due) at
 
 abbrev μ-loop : tie.MeasureT-loop
-μ-loop buf₀ first origin plan due₀ at₀ buf due at = length (restOf plan due)
+μ-loop buf₀ first origin plan due₀ at₀ buf due at = 2 * length (restOf plan due) + weight due
 
 was-false : (b : Bool) → not b ≡ true → b ≡ false
 was-false true e = sym e
@@ -27,17 +31,53 @@ was-true : (b : Bool) → not b ≡ false → b ≡ true
 was-true true e = refl
 was-true false e = sym e
 
+abbrev loop-of : tie.After-next Inv-loop μ-loop → tie.At-loop Inv-loop μ-loop
+loop-of n = n .before .before .before .before .before
+
 -- the next record has room
-has-room : (n : tie.After-next Inv-loop μ-loop) → n .before .before .before .loop .at + recordSize ≤ length (n .before .before .before .loop .buf)
+has-room : (n : tie.After-next Inv-loop μ-loop) → loop-of n .loop .at + recordSize ≤ length (loop-of n .loop .buf)
 has-room n =
-    let l = n .before .before .before in
+    let l = loop-of n in
     written-room (l .before .before .before .pre .1) (l .loop .inv .1) (n .next .result .«record») _ (n .next .ensures .first)
+
+-- a turning cycle is due of which no pass is begun
+abbrev loop-by : tie.Then2 Inv-loop μ-loop → tie.At-loop Inv-loop μ-loop
+loop-by t = t .before .before .before .before
+
+whole-due : (t : tie.Then2 Inv-loop μ-loop) → unbegun (loop-by t .loop .due) ≡ true
+whole-due t = sym (t .before .is-unbegun .ensures) ∙ t .if2 .taken
 
 loop-holds : tie.Need-loop-holds Inv-loop μ-loop
 loop-holds c = (c .before .before .pre .0, none-written _ _ _ _)
 
+put-turning-requires : tie.Need-put-turning-requires Inv-loop μ-loop
+put-turning-requires c κs =
+    let t = c .before in
+    let l = loop-by t in
+    let e = whole-due t in (
+      l .loop .inv .0 .due,
+      e,
+      some-room (l .before .before .before .pre .1) (l .loop .inv .1) (turningRow (l .loop .due)) _ (turning-first _ (l .loop .due) e),
+    )
+
+loop-less : tie.Need-loop-less Inv-loop μ-loop
+loop-less c =
+    let t = c .before .before .before .before .before in
+    let l = loop-by t in
+    lighter _ (l .loop .due) (c .stage-behind .result) _ (whole-due t) (behind-it _ (l .loop .due) (whole-due t) (c .stage-behind .ensures))
+
+loop-again : tie.Need-loop-again Inv-loop μ-loop
+loop-again c =
+    let q = c .before .before .before in
+    let t = q .before .before in
+    let l = loop-by t in
+    let w = some-written (l .before .before .before .pre .1) (l .loop .inv .1) (turningRow (l .loop .due)) _ (behind-it _ (l .loop .due) (whole-due t) (c .stage-behind .ensures)) (q .put-turning .ensures .1) in
+    (record { plan = l .loop .inv .0 .plan; due = tt }, rw (q .put-turning .ensures .0) w)
+
 next-requires : tie.Need-next-requires Inv-loop μ-loop
-next-requires c κs = (c .before .before .loop .inv .0, sym (c .before .is-over .ensures) ∙ was-false _ (c .if1 .taken))
+next-requires c κs =
+    let t = c .before .before in
+    (t .before .before .loop .inv .0, sym (t .before .is-over .ensures) ∙ was-false _ (t .if1 .taken))
 
 sub-put-record : tie.Need-sub-put-record Inv-loop μ-loop
 sub-put-record c = omega (arith, has-room (c .before))
@@ -54,20 +94,20 @@ put-record-requires c κs = let h = has-room (c .before .before) in search needs
 add-at : tie.Need-add-at Inv-loop μ-loop
 add-at c =
     let n = c .before .before .before .before .before in
-    let l = n .before .before .before in
+    let l = loop-of n in
     omega (arith, has-room n, written-length (l .before .before .before .pre .1) (l .loop .inv .1))
 
-loop-less : tie.Need-loop-less Inv-loop μ-loop
-loop-less c =
+loop-less-2 : tie.Need-loop-less-2 Inv-loop μ-loop
+loop-less-2 c =
     let n = c .before .before .before .before .before in
-    let l = n .before .before .before in
-    rest-less (l .before .before .before .pre .1) (l .loop .inv .1) (n .next .result .«record») _ (n .next .ensures .first)
+    let l = loop-of n in
+    omega (arith, weight-few (n .next .result .rest), rest-less (l .before .before .before .pre .1) (l .loop .inv .1) (n .next .result .«record») _ (n .next .ensures .first))
 
-loop-again : tie.Need-loop-again Inv-loop μ-loop
-loop-again c =
+loop-again-2 : tie.Need-loop-again-2 Inv-loop μ-loop
+loop-again-2 c =
     let p = c .before .before in
     let n = p .before .before .before in
-    let l = n .before .before .before in
+    let l = loop-of n in
     let r = n .next .result .«record» in (
       n .next .ensures .sound,
       one-written (l .before .before .before .pre .1) (l .loop .inv .1) r _ (n .next .ensures .first)
@@ -92,13 +132,18 @@ put-rest-spec =
     μ-loop
     loop-holds
     (λ c κs. search needs)
+    (λ c κs. search needs)
+    put-turning-requires
+    (λ c κs. search needs)
+    loop-less
+    loop-again
     next-requires
     sub-put-record
     part-put-record-start
     part-put-record-end
     put-record-requires
     add-at
-    loop-less
-    loop-again
+    loop-less-2
+    loop-again-2
     same-length
     returns)
