@@ -23,8 +23,8 @@ use Rattle.planwords.specs.Plan.{planOf, originOf}
 use Rattle.taking.specs.declared.step.Hand.{Hand}
 use Rattle.taking.specs.declared.step.Hand.the-variants.{Nothing, Block}
 use Rattle.taking.specs.Hands.{inHand}
-use Rattle.stepping.specs.Meets.{Held}
-use Rattle.stepping.proofs.Handing.{taken-last, taken-more}
+use Rattle.holding.specs.Held.{Held}
+use Rattle.holding.proofs.Handing.{taken-last, taken-more}
 use Rattle.inhand.specs.State.{dueIn, planIn, isEmptyIn, handFrom, handIn, PutMeets, GiveMeets}
 use Rattle.inhand.proofs.Puts.{whose}
 

@@ -19,7 +19,7 @@ use Rattle.taking.specs.declared.step.Hand.{Hand}
 use Rattle.taking.specs.declared.step.Hand.the-variants.{Nothing, Block}
 use Rattle.taking.specs.Hands.{inHand}
 use Rattle.paused.specs.declared.Going.{Going}
-use Rattle.stepping.specs.Meets.{Held}
+use Rattle.holding.specs.Held.{Held}
 
 abbrev pub stateWords : ℕ
 stateWords = dueWords + planWords + goingWords

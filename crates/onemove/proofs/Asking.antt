@@ -31,8 +31,9 @@ use Rattle.paused.specs.declared.Phase.the-variants.{Running, Over}
 use Rattle.paused.specs.declared.Going.{Going}
 use Rattle.returning.specs.Standing.{phaseOf, standing, leftFor, taskFor, Placed, PlacedOn}
 use Rattle.starting.specs.Starts.{Ready}
-use Rattle.stepping.proofs.Handing.{none-in-hand}
-use Rattle.stepping.specs.Meets.{Held, TurnMeets}
+use Rattle.holding.proofs.Handing.{none-in-hand}
+use Rattle.holding.specs.Held.{Held}
+use Rattle.stepping.specs.Meets.{TurnMeets}
 use Rattle.stepping.specs.declared.Turned.{Turned}
 use Rattle.inhand.specs.State.{stateWords, handIn, runIn, Given}
 use Rattle.onemove.specs.declared.Told.{Told}

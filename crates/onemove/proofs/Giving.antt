@@ -21,7 +21,7 @@ use Rattle.resumable.proofs.Kept.{same-rest, kept-fits, own, whole-deed}
 use Rattle.taking.specs.declared.step.Hand.{Hand}
 use Rattle.taking.specs.declared.step.Hand.the-variants.{Nothing, Block}
 use Rattle.taking.specs.Hands.{inHand, HandSound}
-use Rattle.stepping.specs.Meets.{Held}
+use Rattle.holding.specs.Held.{Held}
 use Rattle.inhand.specs.State.{stateWords, handIn, runIn, handKept, PutMeets}
 use Rattle.runwords.specs.Taken.{goingOf}
 use Rattle.answers.specs.declared.Answer.{Answer}

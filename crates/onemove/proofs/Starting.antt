@@ -23,8 +23,8 @@ use Rattle.returning.specs.Standing.{leftFor, taskFor, PlacedOn}
 use Rattle.starting.specs.Starts.{Ready, StartMeets}
 use Rattle.starting.specs.Begun.{refusedWith}
 use Rattle.starting.proofs.Meeting.{refused-left, refused-kept, refused-sound}
-use Rattle.stepping.proofs.Handing.{none-in-hand}
-use Rattle.stepping.specs.Meets.{Held}
+use Rattle.holding.proofs.Handing.{none-in-hand}
+use Rattle.holding.specs.Held.{Held}
 use Rattle.inhand.specs.State.{stateWords, handIn, runIn, PutMeets}
 use Rattle.onemove.specs.OneMove.{resultAt, wantedAt, placesStarted, running, Lent, Stood, Holds, BegunMeets, StartsIn}
 

@@ -29,7 +29,7 @@ use Rattle.paused.specs.declared.Phase.{Phase}
 use Rattle.paused.specs.declared.Phase.the-variants.{Running, Over}
 use Rattle.paused.specs.declared.Going.{Going}
 use Rattle.returning.specs.Standing.{leftFor, taskFor, PlacedOn}
-use Rattle.stepping.specs.Meets.{Held}
+use Rattle.holding.specs.Held.{Held}
 use Rattle.stepping.specs.declared.Turned.{Turned}
 use Rattle.starting.specs.Starts.{Ready}
 use Rattle.inhand.specs.State.{stateWords, handIn, runIn}

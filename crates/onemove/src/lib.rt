@@ -17,7 +17,8 @@ ghost use Rattle.settings.specs.Row.{unfit, settingsOf};
 ghost use Rattle.moves.specs.Form.{recordSize};
 ghost use Rattle.taking.specs.declared.step.Hand.the-variants.{Nothing, Block};
 ghost use Rattle.paused.specs.declared.Phase.the-variants.{Running};
-ghost use Rattle.stepping.specs.Meets.{Held, Stands};
+ghost use Rattle.holding.specs.Held.{Held};
+ghost use Rattle.stepping.specs.Meets.{Stands};
 ghost use Rattle.runwords.specs.Laid.{Small};
 ghost use Rattle.inhand.specs.State.{stateWords, handIn, runIn};
 ghost use Rattle.onemove.specs.OneMove.{CanGoOn, OneGiven, FirstMeets, AskMeets, NextMeets, BegunMeets, placesStarted, StartsIn};
@@ -34,7 +35,7 @@ fn give_one(state: &mut [u32], c: Cursor, origin: Origin, record: &mut [u8])
     requires { ⌜ (length (now state) ≡ stateWords) × Held (Block c origin) × (recordSize ≤ length (now «record»)) ⌝ }
     ensures { λ _. ⌜ OneGiven (Block c origin) (now (state .entry)) (now («record» .entry)) (now (state .exit)) (now («record» .exit)) ⌝ }
 {
-    let taken = stepping::take_record(c, origin);
+    let taken = holding::take_record(c, origin);
     let listed = taken.listed;
     let rest = taken.rest;
     let what = listed.what;

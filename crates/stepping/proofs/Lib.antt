@@ -1,4 +1,2 @@
 -- The laws of this crate.
-pub mod Handing
-pub mod Passing
 pub mod Turning

@@ -35,11 +35,13 @@ use Rattle.returning.specs.Moving.{movedTo, goneOn}
 use Rattle.returning.proofs.Going.{Clear, gone-same}
 use Rattle.returning.proofs.Keeping.{Ran, kept-moved, kept-gone}
 use Rattle.returning.proofs.Finding.{gone-stays, gone-placed}
-use Rattle.stepping.specs.declared.Passed.{Passed}
+use Rattle.skipping.specs.declared.Passed.{Passed}
 use Rattle.stepping.specs.declared.Turned.{Turned}
-use Rattle.stepping.specs.Meets.{Held, Fit, PassMeets, Lawful, TurnMeets, Nearer, Stands}
-use Rattle.stepping.proofs.Handing.{none-in-hand}
-use Rattle.stepping.proofs.Passing.{step-same}
+use Rattle.holding.specs.Held.{Held}
+use Rattle.skipping.specs.Passed.{PassMeets}
+use Rattle.stepping.specs.Meets.{Fit, Lawful, TurnMeets, Nearer, Stands}
+use Rattle.holding.proofs.Handing.{none-in-hand}
+use Rattle.skipping.proofs.Passing.{step-same}
 
 falls-le : (w : Onward) (r s : Run) → Falls w r s → s .«blocks_left» ≤ r .«blocks_left»
 falls-le On r s h = omega arith

@@ -10,7 +10,6 @@ use Rattle.settings.specs.Known.{Table, InRange}
 use Rattle.settings.specs.declared.control.Settings.{Settings}
 use Rattle.finding.specs.Finds.{Finds}
 use Rattle.state.specs.Known.{Sound}
-use Rattle.stages.specs.Cursor as cursor
 use Rattle.ahead.specs.Ahead.{FoundAt}
 use Rattle.ahead.specs.declared.Frame.{Frame}
 use Rattle.ahead.specs.declared.Onward.{Onward}
@@ -22,23 +21,13 @@ use Rattle.taking.specs.Hands.{inHand, HandSound, Able, OpenMeets}
 use Rattle.runners.specs.Runs.{blocksInAll}
 use Rattle.resuming.specs.declared.Waiting.{Waiting}
 use Rattle.resuming.specs.Engines.{running, remaining}
+use Rattle.holding.specs.Held.{Held}
 use Rattle.paused.specs.Kept.{Fitting, Kept}
 use Rattle.paused.specs.declared.Phase.{Phase}
 use Rattle.paused.specs.declared.Phase.the-variants.{Running, Over}
 use Rattle.paused.specs.declared.Going.{Going}
-use Rattle.stepping.specs.declared.Passed.{Passed}
 use Rattle.stepping.specs.declared.Turned.{Turned}
 use Rattle.returning.specs.Standing.{leftFor, taskFor, PlacedOn, Placed}
-
--- ---- what is in hand
--- a record, where a block is
-abbrev pub Some : Hand → Type 0
-Some Nothing = Unit {0}
-Some (Block c o) = cursor.over (c .plan) (c .due) ≡ false
-
-pub record Held (h : Hand) : Type 0 where
-  pub sound : HandSound h
-  pub some : Some h
 
 -- ---- before a turn
 -- the tape is what was read of it; nothing is asked of what the tape and the table of places hold
@@ -49,17 +38,6 @@ pub record Fit (tape : List ℕ) (table : List ℤ) (set : Settings) (places : L
   pub read : length tape ≡ g .end
   pub state : Sound (g .run .state)
   pub kept : Kept g
-
--- ---- after the blocks that were passed, and the step behind them
-pub record PassMeets (tape : List ℕ) (table : List ℤ) (set : Settings) (places : List ℕ) (count : ℕ) (f : Frame) (r : Run) (p : Passed) : Type 0 where
-  pub able : Able tape table set places count recordLimit (p .frame) (p .run)
-  pub opened : OpenMeets tape table set places count recordLimit (p .frame) (p .run) (p .opened)
-  pub program : p .frame .program ≡ f .program
-  pub calls : p .frame .«calls_left» ≡ f .«calls_left»
-  pub left : p .run .«blocks_left» ≤ r .«blocks_left»
-  pub same : (first : ℕ) → Finds (take count places) tape first → FoundAt tape first (f .program) → r .«blocks_left» ≤ blocksInAll → (fs : List Waiting)
-      → remaining (taskFor tape table set first) (running [] (f .«calls_left») (f .program) (p .frame .at) fs (p .run))
-      ≡ remaining (taskFor tape table set first) (running [] (f .«calls_left») (f .program) (f .at) fs r)
 
 -- ---- after a turn
 -- what is left is what was left, where the table of places is the tape's own and the answer's place and count have 16 bits

@@ -2,7 +2,7 @@
 use mathlib.Core.Path.{subst}
 use borrow.Author.Needs.{needs}
 use denote.Ref.{now}
-use Rattle.stepping.specs.Meets.{Held}
+use Rattle.holding.specs.Held.{Held}
 use Rattle.onemove.proofs.Giving.{first-move, first-over, never-running}
 use Rattle.onemove.proofs.give_first.Statement.{statement}
 use Rattle.onemove.proofs.give_first.Tie as tie

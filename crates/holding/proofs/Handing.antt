@@ -13,7 +13,7 @@ use Rattle.handing.proofs.Cursors.{rest-none}
 use Rattle.taking.specs.declared.step.Hand.{Hand}
 use Rattle.taking.specs.declared.step.Hand.the-variants.{Nothing, Block}
 use Rattle.taking.specs.Hands.{inHand, HandSound}
-use Rattle.stepping.specs.Meets.{Some, Held}
+use Rattle.holding.specs.Held.{Some, Held}
 
 -- nothing in hand has no records
 pub none-in-hand : inHand Nothing ≡ []

@@ -1,4 +1,4 @@
--- `stepping::pass` meets its contract.
+-- `skipping::pass` meets its contract.
 use mathlib.Core.Path.{_≡_, refl, sym, ap, subst, _∙_}
 use Prim.Native.Nat.{ℕ}
 use lib.ListN.{take}
@@ -12,9 +12,9 @@ use Rattle.taking.specs.declared.step.Hand.the-variants.{Nothing}
 use Rattle.taking.specs.Hands.{Able, Falls, OpenMeets}
 use Rattle.taking.specs.Meets.{MetMeets, QuietDone, Next}
 use Rattle.taking.proofs.Stepping.{quiet-begun, quiet-opens}
-use Rattle.stepping.proofs.Passing.{Passing, pass-first, pass-on, pass-jump, passed}
-use Rattle.stepping.proofs.pass.Statement.{statement}
-use Rattle.stepping.proofs.pass.Tie as tie
+use Rattle.skipping.proofs.Passing.{Passing, pass-first, pass-on, pass-jump, passed}
+use Rattle.skipping.proofs.pass.Statement.{statement}
+use Rattle.skipping.proofs.pass.Tie as tie
 
 abbrev Inv-loop : tie.InvT-loop
 Inv-loop tape table set places count frame at₀ now₀ at now = Passing tape table set places count frame now₀ at now

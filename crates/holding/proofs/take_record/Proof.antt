@@ -1,9 +1,9 @@
--- `stepping::take_record` meets its contract.
+-- `holding::take_record` meets its contract.
 use mathlib.Core.Path.{sym, _∙_}
 use borrow.Author.Needs.{needs}
-use Rattle.stepping.proofs.Handing.{taken-last, taken-more}
-use Rattle.stepping.proofs.take_record.Statement.{statement}
-use Rattle.stepping.proofs.take_record.Tie as tie
+use Rattle.holding.proofs.Handing.{taken-last, taken-more}
+use Rattle.holding.proofs.take_record.Statement.{statement}
+use Rattle.holding.proofs.take_record.Tie as tie
 
 returns : tie.Need-returns
 returns c =

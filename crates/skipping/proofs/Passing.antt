@@ -30,8 +30,8 @@ use Rattle.returning.specs.Standing.{taskFor}
 use Rattle.returning.specs.Moving.{withinOf}
 use Rattle.returning.proofs.Going.{within-is}
 use Rattle.returning.proofs.Keeping.{within-fits}
-use Rattle.stepping.specs.declared.Passed.{Passed}
-use Rattle.stepping.specs.Meets.{PassMeets}
+use Rattle.skipping.specs.declared.Passed.{Passed}
+use Rattle.skipping.specs.Passed.{PassMeets}
 
 -- ---- a step keeps what is left
 module _ (t : Task) (program : ProgramAt) (calls at : ℕ) (r : Run) where

@@ -1,9 +1,9 @@
--- `stepping::held` meets its contract.
+-- `holding::held` meets its contract.
 use mathlib.Core.Path.{sym, _∙_}
 use borrow.Author.Needs.{needs}
-use Rattle.stepping.proofs.Handing.{held-none, held-nothing, held-some}
-use Rattle.stepping.proofs.held.Statement.{statement}
-use Rattle.stepping.proofs.held.Tie as tie
+use Rattle.holding.proofs.Handing.{held-none, held-nothing, held-some}
+use Rattle.holding.proofs.held.Statement.{statement}
+use Rattle.holding.proofs.held.Tie as tie
 
 returns : tie.Need-returns
 returns c =
