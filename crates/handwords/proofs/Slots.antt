@@ -1,18 +1,21 @@
--- What is kept, by its tag.
+-- What is kept, by its tag, and what is due, where a record of the deed is in hand.
 -- Assumes nothing.
 use mathlib.Core.Path.{_≡_, ap, _∙_}
+use mathlib.Core.Bool.{true, false}
 use mathlib.Core.List.{List}
 use Prim.Native.Nat.{ℕ, _<_}
 use native.Mathlib.Omega.{arith}
-use borrow.Author.Tests.{ne-eqb}
+use lib.Dec.{eqb}
+use borrow.Author.Tests.{ne-eqb, eqb-true}
 use Rattle.stages.specs.declared.cursor.Stage.{Stage}
+use Rattle.stages.specs.declared.cursor.Due.{Due}
 use Rattle.stages.specs.declared.cursor.Due.the-variants.{Turning, Threading, Grooving, Drilling, Single}
 use Rattle.cells.specs.Numbers.{at}
 use Rattle.cyclewords.specs.Turned.{turningTag, turningOf}
 use Rattle.cyclewords.specs.Threaded.{threadingTag, threadingOf}
 use Rattle.cyclewords.specs.Grooved.{groovingTag, groovingOf}
 use Rattle.cyclewords.specs.Drilled.{drillingTag, drillingOf}
-use Rattle.handwords.specs.Due.{stageOf, slotBy, slotOf}
+use Rattle.handwords.specs.Due.{isEmpty, deeds, isDeed, stageOf, slotBy, slotOf, dueFrom, dueBy}
 
 module _ (w : List ℕ) where
   pub slot-turning : {c : _} → at w 1 ≡ turningTag → turningOf w ≡ c → slotOf w ≡ Turning c
@@ -41,3 +44,11 @@ module _ (w : List ℕ) where
         ne-eqb (at w 1) drillingTag (λ h. omega arith),
       )
       (ap Single e)
+
+  -- ---- a record of the deed is in hand
+  pub deed-some : isDeed w ≡ true → isEmpty w ≡ false
+  deed-some e = ap (λ (u : ℕ). eqb u 0) (eqb-true (at w 0) deeds e)
+
+  pub deed-due : (slot : Due) → isDeed w ≡ true → dueBy w slot ≡ slot
+  unfolding dueBy
+  deed-due slot e = ap (λ (u : ℕ). dueFrom u slot) (eqb-true (at w 0) deeds e)

@@ -19,6 +19,13 @@ use Rattle.cyclewords.specs.Drilled.{drillingTag, drillingOf}
 abbrev pub isEmpty : List ℕ → Bool
 isEmpty w = eqb (at w 0) 0
 
+-- a record of the deed is in hand
+abbrev pub deeds : ℕ
+deeds = 5
+
+abbrev pub isDeed : List ℕ → Bool
+isDeed w = eqb (at w 0) deeds
+
 -- ---- what is kept
 abbrev pub stageOf : ℕ → Stage
 stageOf u =

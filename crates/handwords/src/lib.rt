@@ -13,7 +13,7 @@ ghost use Rattle.stages.specs.declared.cursor.Due.the-variants.{Single};
 ghost use Rattle.cells.specs.Numbers.{at};
 ghost use Rattle.cyclewords.specs.Sizes.{dueWords};
 ghost use Rattle.resumable.specs.Kept.{leads, kept};
-ghost use Rattle.handwords.specs.Due.{isEmpty, stageOf, slotOf, dueFrom, dueBy, Hands};
+ghost use Rattle.handwords.specs.Due.{isEmpty, isDeed, stageOf, slotOf, dueFrom, dueBy, Hands};
 
 // What is in hand.
 const NOTHING: u32 = 0;
@@ -26,7 +26,7 @@ const LEADS_SPINDLE: u32 = 3;
 
 const LEADS_COOLANT: u32 = 4;
 
-const DEEDS: u32 = 5;
+pub const DEEDS: u32 = 5;
 
 // The tags of what is kept; those of the cycles stand with the cycles.
 const SPEED: u32 = 0;
@@ -140,6 +140,14 @@ pub fn is_empty(w: &[u32]) -> bool
     ensures { λ r. ⌜ r ≡ isEmpty (now (w .entry)) ⌝ }
 {
     w[0] == NOTHING
+}
+
+// Whether a record of the deed is due, so that what is kept is what is due.
+pub fn is_deed(w: &[u32]) -> bool
+    requires { ⌜ length (now w) ≡ dueWords ⌝ }
+    ensures { λ r. ⌜ r ≡ isDeed (now (w .entry)) ⌝ }
+{
+    w[0] == DEEDS
 }
 
 pub fn empty_words() -> [u32; DUE_WORDS]

@@ -26,7 +26,7 @@ use Rattle.taking.specs.Hands.{inHand}
 use Rattle.holding.specs.Held.{Held}
 use Rattle.holding.proofs.Handing.{taken-last, taken-more}
 use Rattle.inhand.specs.State.{dueIn, planIn, isEmptyIn, handFrom, handIn, PutMeets, GiveMeets}
-use Rattle.inhand.proofs.Puts.{whose}
+use Rattle.statewords.proofs.Puts.{whose}
 
 -- ---- what is due by the words: a record of a word before the deed, or what is kept
 either : (P : Due → Type 0) (a b c d : Bool) (slot : Due) → P (Single Speed) → P (Single Tool) → P (Single Spindle) → P (Single Coolant) → P slot

@@ -1,4 +1,3 @@
--- The laws of the words of a state.
-pub mod Parts
-pub mod Puts
+-- The laws of a record that is given.
 pub mod Giving
+pub mod Cycles

@@ -15,6 +15,9 @@ pub const PLAN_WORDS: usize = 27;
 
 const RECORD_WORDS: usize = 5;
 
+// Where the words say whether M00 or M30 stands behind the deed.
+const STOPS: usize = 25;
+
 fn record_words(r: Record) -> [u32; RECORD_WORDS]
     ensures { λ w. ⌜ recordAt w 0 ≡ r ⌝ }
 {
@@ -70,7 +73,7 @@ pub fn plan_of(w: &[u32], deed: Due) -> Plan
         has_tool: cells::figures::flag_at(w, 22),
         has_spindle: cells::figures::flag_at(w, 23),
         has_coolant: cells::figures::flag_at(w, 24),
-        stops: cells::figures::flag_at(w, 25),
+        stops: cells::figures::flag_at(w, STOPS),
         g96: cells::figures::flag_at(w, 26),
         deed,
     }
@@ -84,6 +87,14 @@ pub fn origin_of(w: &[u32]) -> Origin
         program: cells::figures::short_at(w, 0),
         block: cells::figures::short_at(w, 1),
     }
+}
+
+// Whether M00 or M30 stands behind the deed.
+pub fn stops_of(w: &[u32]) -> bool
+    requires { ⌜ length (now w) ≡ planWords ⌝ }
+    ensures { λ r. ⌜ ((d : Due) → r ≡ planOf (now (w .entry)) d .stops) ⌝ }
+{
+    cells::figures::flag_at(w, STOPS)
 }
 
 fn own_words(own: Own) -> [u32; 11]

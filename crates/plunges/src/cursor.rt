@@ -117,6 +117,24 @@ pub fn next(c: Cursor) -> Handed
     }
 }
 
+// The same, for a path that has grooves alone (`cyclehand`). The choice is written out once more so that either has one caller and becomes a part of it: as a function by itself it would keep its
+// numbers below the stack pointer, also where a list is written.
+pub fn next_alone(c: Cursor) -> Handed
+    requires { ⌜ Sound c × (over c ≡ false) ⌝ }
+    ensures { λ r. ⌜ Makes c (r .record) (r .rest) ⌝ }
+{
+    let stage = c.stage;
+    match stage {
+        Stage::Cut => cut(c),
+        Stage::Back => draw_back(c),
+        Stage::Dwell => dwell(c),
+        Stage::Out => go_out(c),
+        Stage::Across => go_across(c),
+        // none is left: no caller comes here
+        Stage::Over => go_across(c),
+    }
+}
+
 // The same plunge at another of its records.
 fn at_stage(c: Cursor, stage: Stage) -> Cursor
     ensures { λ r. ⌜ r ≡ at c stage ⌝ }

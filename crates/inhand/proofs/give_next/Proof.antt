@@ -1,137 +1,86 @@
 -- `inhand::give_next` meets its contract.
 use borrow.Author.Needs.{needs}
-use mathlib.Core.Path.{_≡_, refl, sym, _∙_}
-use mathlib.Core.Bool.{Bool, true, false, not}
-use native.Mathlib.Omega.{arith}
+use mathlib.Core.Path.{_≡_, sym}
 use lib.ListN.{length}
-use lib.Seq.{length-take-le}
-use Rattle.telling.proofs.Tells.{never}
-use Rattle.resumable.specs.Kept.{Fits}
 use Rattle.cyclewords.specs.Sizes.{dueWords}
+use Rattle.statewords.proofs.Parts.{length-due}
 use Rattle.inhand.specs.State.{dueIn}
-use Rattle.inhand.proofs.Giving.{Read, read-sound, unfit, none-left, last, more}
+use Rattle.inhand.proofs.Cycles.{Asked, cycle-gives, cycle-refuses, any-asked, any-gives}
 use Rattle.inhand.proofs.give_next.Statement.{statement}
 use Rattle.inhand.proofs.give_next.Tie as tie
 
-was-false : (b : Bool) → not b ≡ true → b ≡ false
-was-false true e = sym e
-was-false false e = refl
-
-was-true : (b : Bool) → not b ≡ false → b ≡ true
-was-true true e = refl
-was-true false e = sym e
-
 -- the words of what is due are as many as they take
 front : (s : tie.Start) → length (dueIn (s .args .state .now)) ≡ dueWords
-front s = length-take-le dueWords (s .args .state .now) (omega (arith, s .pre .0))
+front s = length-due (s .args .state .now) (s .pre .0)
 
--- what was read of the words
-abbrev start : tie.After-origin-of → tie.Start
-start n = n .before .before .before .before .before .before .before .before .before .before .before
+slice-aggregate-give : tie.Need-slice-aggregate-give
+slice-aggregate-give c = sym (front (c .before .before .before .before .before .before .before))
 
-read-of : (n : tie.After-origin-of) → Read (start n .args .state .now) (n .before .before .before .before .before .before .before .slot-of .result) (n .before .before .before .before .due-of .result) (n .before .plan-of .result) (n .origin-of .result)
-read-of n =
-    let plan = n .before in
-    let due = plan .before .before .before in
-    let slot = due .before .before .before in
-    record { slot = slot .slot-of .ensures; due = due .due-of .ensures; plan = plan .plan-of .ensures; origin = n .origin-of .ensures }
+give-requires : tie.Need-give-requires
+give-requires c κs = let s = c .before .before .before .before .before .before .before .before in (front s, s .pre .2)
 
-fits : (n : tie.After-origin-of) → Fits (n .before .before .before .before .before .before .before .slot-of .result)
-fits n =
-    let tested = n .before .before .before .before .before in
-    tested .before .is-fit .ensures .0 (was-true _ (tested .if1 .left))
+-- what was asked of the words of what is due
+abbrev start : tie.After-give → tie.Start
+start g = g .before .before .before .before .before .before .before .before .before
 
-abbrev origin-at : tie.After-is-over2 → tie.After-origin-of
-origin-at c = c .before .before .before .before .before .before .before .before .before
+asked : (g : tie.After-give) → Asked (start g .args .state .now) (start g .args .«record» .now) (g .give .result) (g .give .last .0) (g .give .last .1 .0)
+asked g =
+    let t = g .before .before .before in
+    let o = t .before in
+    let s = start g in
+    record {
+      long = s .pre .0;
+      some = s .pre .1;
+      origin = o .origin-of .result;
+      stops = t .stops-of .result;
+      from = o .origin-of .ensures;
+      stop = t .stops-of .ensures;
+      told = g .give .ensures;
+    }
 
-slice-aggregate-part : tie.Need-slice-aggregate-part
-slice-aggregate-part c = sym (front (c .before .before .before))
-
-slot-of-requires : tie.Need-slot-of-requires
-slot-of-requires c κs = front (c .before .before .before)
+abbrev give-at : tie.After-slice-known4 → tie.After-give
+give-at k = k .before .before .before .before
 
 returns : tie.Need-returns
-returns c =
-    let fit = c .before in
-    let slot = fit .before in
-    let s = slot .before .before .before .before in
-    unfit (s .args .state .now) (s .args .«record» .now) (s .pre .1) (slot .slot-of .result) (slot .slot-of .ensures)
-    (λ f. never (sym (was-false _ (c .if1 .taken)) ∙ fit .is-fit .ensures .1 f))
-
-due-of-requires : tie.Need-due-of-requires
-due-of-requires c κs = front (c .before .before .before .before .before .before)
+returns c = cycle-gives (asked (give-at (c .before .before))) (c .enum-told .given .1)
 
 returns-2 : tie.Need-returns-2
-returns-2 c =
-    let n = c .before .before in
-    let s = start n in
-    none-left (s .args .state .now) (s .args .«record» .now) (s .pre .1) (read-of n) (sym (c .before .is-over .ensures) ∙ c .if2 .taken)
+returns-2 c = cycle-refuses (asked (give-at (c .before .before))) (c .enum-told2 .given .1)
 
-next-requires : tie.Need-next-requires
-next-requires c κs =
-    let n = c .before .before in
-    (read-sound (read-of n) (fits n), sym (c .before .is-over .ensures) ∙ c .if2 .left)
-
-put-record-requires : tie.Need-put-record-requires
-put-record-requires c κs = start (c .before .before .before .before .before) .pre .2
-
-put-nothing-requires : tie.Need-put-nothing-requires
-put-nothing-requires c κs = start (origin-at (c .before .before)) .pre .0
+give-any-requires : tie.Need-give-any-requires
+give-any-requires c κs =
+    let t = c .before .before in
+    let g = give-at (t .before .before) in
+    any-asked (asked g) (t .enum-told3 .given .1) (start g .pre .2)
 
 returns-3 : tie.Need-returns-3
 returns-3 c =
-    let put = c .before .before in
-    let branch = put .before .before in
-    let over = branch .before in
-    let laid = over .before .before .before in
-    let next = laid .before .before .before in
-    let n = next .before .before .before in
-    let s = start n in
-    last (s .args .state .now) (s .args .«record» .now) (s .pre .1) (read-of n) _ _ (next .next .ensures) (sym (over .is-over2 .ensures) ∙ branch .if3 .taken)
-    (put .put-nothing .ensures) (laid .put-record .ensures)
-
-put-due-requires : tie.Need-put-due-requires
-put-due-requires c κs = start (origin-at (c .before .before)) .pre .0
-
-returns-4 : tie.Need-returns-4
-returns-4 c =
-    let put = c .before .before in
-    let branch = put .before .before in
-    let over = branch .before in
-    let laid = over .before .before .before in
-    let next = laid .before .before .before in
-    let n = next .before .before .before in
-    let s = start n in
-    more (s .args .state .now) (s .args .«record» .now) (s .pre .1) (read-of n) _ _ (next .next .ensures) (sym (over .is-over2 .ensures) ∙ branch .if3 .left)
-    (put .put-due .ensures) (laid .put-record .ensures)
+    let any = c .before .before .before .before in
+    let t = any .before .before .before in
+    any-gives (asked (give-at (t .before .before))) (t .enum-told3 .given .1) (any .give-any .ensures)
 
 pub give-next-spec : {M : Type 1} → statement M
 give-next-spec =
     tie.close
     (tie.spec
     (λ c. search needs)
-    slice-aggregate-part
-    slot-of-requires
+    (λ c. search needs)
+    (λ c. search needs)
     (λ c κs. search needs)
+    (λ c κs. search needs)
+    (λ c. search needs)
+    slice-aggregate-give
+    give-requires
+    (λ c. search needs)
+    (λ c. search needs)
+    (λ c. search needs)
+    give-any-requires
+    (λ c. search needs)
     (λ c. search needs)
     returns
-    due-of-requires
     (λ c. search needs)
-    (λ c. search needs)
-    (λ c. search needs)
-    (λ c κs. search needs)
-    (λ c κs. search needs)
-    (λ c κs. search needs)
     (λ c. search needs)
     returns-2
-    next-requires
-    put-record-requires
-    (λ c κs. search needs)
-    put-nothing-requires
     (λ c. search needs)
     (λ c. search needs)
-    returns-3
-    put-due-requires
-    (λ c. search needs)
-    (λ c. search needs)
-    returns-4)
+    returns-3)

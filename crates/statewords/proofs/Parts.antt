@@ -13,7 +13,7 @@ use Rattle.whole.proofs.Laying.{lent, length-laid}
 use Rattle.cyclewords.specs.Sizes.{dueWords}
 use Rattle.planwords.specs.Plan.{planWords}
 use Rattle.runwords.specs.Taken.{goingWords}
-use Rattle.inhand.specs.State.{stateWords, dueIn, planIn, goingIn}
+use Rattle.statewords.specs.State.{stateWords, dueIn, planIn, goingIn}
 
 -- ---- what stands before the words that were laid, where they are, and behind them
 before : (w : List ℕ) (at : ℕ) (p : List ℕ) (n : ℕ) → n ≤ at → at ≤ length w → take n (laid w at p) ≡ take n w
@@ -29,6 +29,10 @@ there w at p k = drop-at (take at w) (p ++ drop (at + length p) w) at (length-ta
 behind : (w : List ℕ) (at : ℕ) (p : List ℕ) (n : ℕ) → length p ≡ n → at ≤ length w → drop (at + n) (laid w at p) ≡ drop (at + n) w
 behind w at p n e k =
     sym (drop-drop n at (laid w at p)) ∙ ap (drop n) (there w at p k) ∙ drop-at p (drop (at + length p) w) n e ∙ ap (λ (i : ℕ). drop (at + i) w) e
+
+-- the words of what is due are as many as they take
+pub length-due : (w : List ℕ) → length w ≡ stateWords → length (dueIn w) ≡ dueWords
+length-due w h = length-take-le dueWords w (omega arith)
 
 -- the words of the plan are those of the first two parts without the first
 plan-of-two : (w : List ℕ) → length w ≡ stateWords → planIn w ≡ drop dueWords (take (dueWords + planWords) w)

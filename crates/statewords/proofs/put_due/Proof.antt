@@ -1,8 +1,8 @@
--- `inhand::put_due` meets its contract.
+-- `statewords::put_due` meets its contract.
 use borrow.Author.Needs.{needs}
-use Rattle.inhand.proofs.Puts.{due-is-put}
-use Rattle.inhand.proofs.put_due.Statement.{statement}
-use Rattle.inhand.proofs.put_due.Tie as tie
+use Rattle.statewords.proofs.Puts.{due-is-put}
+use Rattle.statewords.proofs.put_due.Statement.{statement}
+use Rattle.statewords.proofs.put_due.Tie as tie
 
 returns : tie.Need-returns
 returns c =

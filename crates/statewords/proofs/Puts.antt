@@ -20,8 +20,8 @@ use Rattle.runwords.specs.Taken.{goingWords, goingOf}
 use Rattle.taking.specs.declared.step.Hand.{Hand}
 use Rattle.taking.specs.declared.step.Hand.the-variants.{Nothing, Block}
 use Rattle.paused.specs.declared.Going.{Going}
-use Rattle.inhand.specs.State.{stateWords, dueIn, planIn, goingIn, isEmptyIn, handFrom, handIn, runIn, handKept, PutMeets}
-use Rattle.inhand.proofs.Parts.{Parts, due-laid, plan-laid, going-laid, going-lent}
+use Rattle.statewords.specs.State.{stateWords, dueIn, planIn, goingIn, isEmptyIn, handFrom, handIn, runIn, handKept, PutMeets}
+use Rattle.statewords.proofs.Parts.{Parts, due-laid, plan-laid, going-laid, going-lent}
 
 -- ---- what is in hand, by its two parts
 abbrev pub handBy : List ℕ → List ℕ → Hand

@@ -1,8 +1,8 @@
--- `inhand::put_hand` meets its contract.
+-- `statewords::put_hand` meets its contract.
 use borrow.Author.Needs.{needs}
-use Rattle.inhand.proofs.Puts.{hand-put}
-use Rattle.inhand.proofs.put_hand.Statement.{statement}
-use Rattle.inhand.proofs.put_hand.Tie as tie
+use Rattle.statewords.proofs.Puts.{hand-put}
+use Rattle.statewords.proofs.put_hand.Statement.{statement}
+use Rattle.statewords.proofs.put_hand.Tie as tie
 
 returns : tie.Need-returns
 returns c =

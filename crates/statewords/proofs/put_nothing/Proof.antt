@@ -1,8 +1,8 @@
--- `inhand::put_nothing` meets its contract.
+-- `statewords::put_nothing` meets its contract.
 use borrow.Author.Needs.{needs}
-use Rattle.inhand.proofs.Puts.{nothing-put}
-use Rattle.inhand.proofs.put_nothing.Statement.{statement}
-use Rattle.inhand.proofs.put_nothing.Tie as tie
+use Rattle.statewords.proofs.Puts.{nothing-put}
+use Rattle.statewords.proofs.put_nothing.Statement.{statement}
+use Rattle.statewords.proofs.put_nothing.Tie as tie
 
 returns : tie.Need-returns
 returns c =

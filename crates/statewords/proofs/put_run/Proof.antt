@@ -1,8 +1,8 @@
--- `inhand::put_run` meets its contract.
+-- `statewords::put_run` meets its contract.
 use borrow.Author.Needs.{needs}
-use Rattle.inhand.proofs.Puts.{run-put}
-use Rattle.inhand.proofs.put_run.Statement.{statement}
-use Rattle.inhand.proofs.put_run.Tie as tie
+use Rattle.statewords.proofs.Puts.{run-put}
+use Rattle.statewords.proofs.put_run.Statement.{statement}
+use Rattle.statewords.proofs.put_run.Tie as tie
 
 returns : tie.Need-returns
 returns c =
