@@ -14,9 +14,9 @@ use Rattle.stages.specs.Cursor as cursor
 use Rattle.stages.specs.declared.cursor.Due.{Due}
 use Rattle.stages.specs.declared.cursor.Due.the-variants.{Turning, Threading, Grooving, Drilling, Single}
 use Rattle.stages.specs.declared.cursor.Plan.{Plan}
-use Rattle.resumable.specs.Kept.{isLead, kept, Fits}
+use Rattle.resumable.specs.Kept.{isLead, kept}
 use Rattle.cyclewords.specs.Sizes.{dueWords}
-use Rattle.handwords.specs.Due.{isEmpty, isDeed, slotOf, dueBy}
+use Rattle.handwords.specs.Due.{isDeed, slotOf, dueBy}
 use Rattle.handwords.proofs.Slots.{deed-some, deed-due}
 use Rattle.passhand.specs.declared.Gave.{Gave}
 use Rattle.passhand.specs.declared.Gave.the-variants.{Given, Unfit, Other}

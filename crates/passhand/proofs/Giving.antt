@@ -2,11 +2,11 @@
 -- Assumes nothing.
 use mathlib.Core.Path.{_≡_, refl, sym, ap, subst, _∙_}
 use mathlib.Core.Bool.{Bool, true, false, not, _&&_}
-use mathlib.Core.List.{List, [], _++_, append-nil}
+use mathlib.Core.List.{List, _++_, append-nil}
 use Prim.Native.Nat.{ℕ, _+_}
 use native.Mathlib.Omega.{arith}
 use lib.Dec.{eqb}
-use lib.ListN.{length, drop, drop-of-length-le}
+use lib.ListN.{length, drop-of-length-le}
 use Rattle.whole.specs.Bytes.{laid}
 use Rattle.telling.proofs.Tells.{Tells, told-no}
 use Rattle.moves.specs.Form.{recordBytes, listed}
@@ -20,7 +20,7 @@ use Rattle.cyclewords.specs.Sizes.{dueWords}
 use Rattle.handwords.specs.Due.{isEmpty, deeds, isDeed, slotOf}
 use Rattle.passhand.specs.declared.Gave.{Gave}
 use Rattle.passhand.specs.declared.Gave.the-variants.{Given, Unfit, Other}
-use Rattle.passhand.specs.Gives.{isCycle, goesOn, goesOnIn, Holds, Put, Laid, Gives}
+use Rattle.passhand.specs.Gives.{isCycle, goesOn, goesOnIn, Holds, Put, Gives}
 
 -- ---- a test turned round
 pub was-false : (b : Bool) → not b ≡ true → b ≡ false

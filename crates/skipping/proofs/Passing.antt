@@ -23,14 +23,13 @@ use Rattle.taking.specs.declared.step.Opened.{Opened}
 use Rattle.runners.specs.Runs.{blocksInAll}
 use Rattle.resuming.specs.declared.Waiting.{Waiting}
 use Rattle.resuming.specs.Remains.{frameAt}
-use Rattle.resuming.specs.Handed.{Made, Left}
-use Rattle.resuming.specs.Engines.{Engine, running, turnBy, turn, remaining}
+use Rattle.resuming.specs.Handed.{Made}
+use Rattle.resuming.specs.Engines.{running, turnBy, turn, remaining}
 use Rattle.resuming.proofs.Turns.{turn-same}
 use Rattle.returning.specs.Standing.{taskFor}
 use Rattle.returning.specs.Moving.{withinOf}
 use Rattle.returning.proofs.Going.{within-is}
 use Rattle.returning.proofs.Keeping.{within-fits}
-use Rattle.skipping.specs.declared.Passed.{Passed}
 use Rattle.skipping.specs.Passed.{PassMeets}
 
 -- ---- a step keeps what is left

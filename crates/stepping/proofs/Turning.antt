@@ -5,8 +5,7 @@ use mathlib.Core.List.{List, []}
 use Prim.Native.Nat.{ℕ, _-_, _≤_, _<_}
 use native.Mathlib.Omega.{arith}
 use lib.IntN.{ℤ}
-use lib.ListN.{length, take}
-use Rattle.places.specs.Places.{sixteenBits}
+use lib.ListN.{length}
 use Rattle.settings.specs.declared.control.Settings.{Settings}
 use Rattle.state.specs.Known.{Sound}
 use Rattle.ahead.specs.Ahead.{mostCalls, FoundAt}
@@ -20,8 +19,7 @@ use Rattle.taking.specs.Hands.{inHand, Falls, Stays, Leads}
 use Rattle.taking.specs.declared.step.Run.{Run}
 use Rattle.taking.specs.declared.step.StepDone.{StepDone}
 use Rattle.taking.specs.declared.step.Hand.{Hand}
-use Rattle.taking.specs.declared.step.Hand.the-variants.{Nothing, Block}
-use Rattle.runners.specs.Runs.{blocksInAll}
+use Rattle.taking.specs.declared.step.Hand.the-variants.{Nothing}
 use Rattle.answers.specs.Answers.{placeOf}
 use Rattle.resuming.specs.declared.Waiting.{Waiting}
 use Rattle.resuming.specs.Handed.{Made, Left}
@@ -30,7 +28,7 @@ use Rattle.paused.specs.Kept.{Fitting, Kept}
 use Rattle.paused.specs.declared.Phase.{Phase}
 use Rattle.paused.specs.declared.Phase.the-variants.{Running, Over}
 use Rattle.paused.specs.declared.Going.{Going}
-use Rattle.returning.specs.Standing.{stackOf, depthOf, phaseOf, standing, leftFor, taskFor, AllFound, Placed, PlacedOn}
+use Rattle.returning.specs.Standing.{stackOf, depthOf, phaseOf, leftFor, taskFor, AllFound, Placed, PlacedOn}
 use Rattle.returning.specs.Moving.{movedTo, goneOn}
 use Rattle.returning.proofs.Going.{Clear, gone-same}
 use Rattle.returning.proofs.Keeping.{Ran, kept-moved, kept-gone}

@@ -1,26 +1,16 @@
 -- What is known of a turn and of an engine. It serves contracts and proofs.
 use mathlib.Core.Path.{_≡_}
-use mathlib.Core.Bool.{false}
 use mathlib.Core.List.{List, []}
 use Prim.Native.Nat.{ℕ, _≤_, _<_}
 use lib.IntN.{ℤ}
-use lib.ListN.{length, take}
-use Rattle.moves.specs.Form.{recordLimit}
+use lib.ListN.{length}
 use Rattle.settings.specs.Known.{Table, InRange}
 use Rattle.settings.specs.declared.control.Settings.{Settings}
-use Rattle.finding.specs.Finds.{Finds}
 use Rattle.state.specs.Known.{Sound}
-use Rattle.ahead.specs.Ahead.{FoundAt}
-use Rattle.ahead.specs.declared.Frame.{Frame}
-use Rattle.ahead.specs.declared.Onward.{Onward}
-use Rattle.ahead.specs.declared.Onward.the-variants.{On, Call, Jump, Return, End, Stop}
 use Rattle.taking.specs.declared.step.Run.{Run}
 use Rattle.taking.specs.declared.step.Hand.{Hand}
 use Rattle.taking.specs.declared.step.Hand.the-variants.{Nothing, Block}
-use Rattle.taking.specs.Hands.{inHand, HandSound, Able, OpenMeets}
-use Rattle.runners.specs.Runs.{blocksInAll}
-use Rattle.resuming.specs.declared.Waiting.{Waiting}
-use Rattle.resuming.specs.Engines.{running, remaining}
+use Rattle.taking.specs.Hands.{inHand}
 use Rattle.holding.specs.Held.{Held}
 use Rattle.paused.specs.Kept.{Fitting, Kept}
 use Rattle.paused.specs.declared.Phase.{Phase}
