@@ -2,5 +2,6 @@
 pub mod Writing
 pub mod OneReading
 pub mod Rows
+pub mod Written
 pub mod Room
 pub mod Last

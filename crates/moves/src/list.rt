@@ -1,10 +1,11 @@
 // The list in the lent buffer: the room it has, a record written at its place, and the header, which is written last.
 // Every function that writes says what all of the slice that it is lent holds after it: bytes that it does not name are as they came.
 ghost use mathlib.Core.Path.{_≡_};
-ghost use Prim.Native.Nat.{_≤_};
+ghost use mathlib.Core.List.{[], _∷_};
+ghost use Prim.Native.Nat.{_*_, _≤_};
 ghost use lib.ListN.{length};
 ghost use Rattle.whole.specs.Bytes.{laid};
-ghost use Rattle.moves.specs.Form.{headerSize, recordSize, roomOf, listed, recordBytes, headerBytes};
+ghost use Rattle.moves.specs.Form.{headerSize, recordSize, roomOf, listed, recordBytes, rowFrom, headerBytes};
 use crate::record::Origin;
 use crate::record::Record;
 
@@ -41,6 +42,15 @@ pub fn put_record(part: &mut [u8], what: Record, origin: Origin)
         crate::AT_PROGRAM,
         [program[0], program[1], block[0], block[1]],
     );
+}
+
+// Writes two records in the same way, the second behind the first.
+pub fn put_two(part: &mut [u8], first: Record, second: Record, origin: Origin)
+    requires { ⌜ 2 * recordSize ≤ length (now part) ⌝ }
+    ensures { λ _. ⌜ now (part .exit) ≡ laid (now (part .entry)) 0 (rowFrom origin (first ∷ second ∷ [])) ⌝ }
+{
+    put_record(part, first, origin);
+    put_record(&mut part[crate::RECORD_SIZE..], second, origin);
 }
 
 // Writes the header of a list of so many records. (01: "The header is written only when the run succeeds".)

@@ -10,7 +10,7 @@ use lib.IntN.{ℤ, _+ℤ_, _-ℤ_}
 use lib.ListN.{length}
 use mir.Syntax.{w32}
 use mir.Val.{SFits}
-use borrow.Author.Tests.{lt-ltb, ne-eqb}
+use borrow.Author.Tests.{lt-ltb, ltb-true, ne-eqb}
 use Rattle.whole.specs.declared.signed.Side.the-variants.{Minus}
 use Rattle.whole.specs.Signed.{along}
 use Rattle.whole.proofs.Integers.{whole, range, sub-in, abs}
@@ -26,8 +26,9 @@ use Rattle.grooving.specs.declared.groove.Groove.{Groove}
 use Rattle.plunges.specs.declared.cursor.Stage.{Stage}
 use Rattle.plunges.specs.declared.cursor.Stage.the-variants.{Cut, Back, Dwell, Out, Across, Over}
 use Rattle.plunges.specs.declared.cursor.Cursor.{Cursor}
+use Rattle.plunges.specs.declared.cursor.CutAndBack.{CutAndBack}
 use Rattle.grooving.specs.Grooving.{lengthOf, wrong, rest, steps, cuts, cutTo, outTo, deepAt, cutting, dwelling, plunge, plunges, afterFirst, grooving}
-use Rattle.plunges.specs.Cursor.{others, fromOut, restAt, restOf, overAt, over, at, afterCut, Ready, Sound, Makes}
+use Rattle.plunges.specs.Cursor.{others, fromOut, restAt, restOf, overAt, over, beforeBackAt, beforeBack, at, afterCut, Ready, Sound, Makes, MakesCut}
 use Rattle.grooving.proofs.Asked.{width-fits}
 use Rattle.grooving.proofs.Counts.{Stands}
 use Rattle.grooving.proofs.Rows.{some-cuts, cuts-length, cuts-sum, steps-sum}
@@ -159,6 +160,9 @@ module _ (c : Cursor) (sound : Sound c) {d : ℕ} (ds : Pieces) (row : rowOf (c 
   pub reaches : c .deep + d ≤ lengthOf (c .groove .depth)
   reaches = let e : sum (rowOf (c .cuts)) ≡ d + sum (rowOf ds) = ap sum row in omega (arith, e, sound .reach)
 
+  pub one-fewer : ds .left ≡ c .cuts .left - 1
+  one-fewer = omega (arith, row-length (c .cuts), row-length ds, ap length row)
+
   abbrev deeper : Stage → Cursor
   deeper s = record { groove = c .groove; stage = s; width = c .width; deep = c .deep + d; cuts = ds; plunge = c .plunge; steps = c .steps; several = c .several }
 
@@ -267,3 +271,20 @@ none-at Over c h = refl
 pub rest-none : (c : Cursor) → over c ≡ true → restOf c ≡ []
 unfolding restOf
 rest-none c e = none-at (c .stage) c e
+
+-- ---- a cut and the rapid back behind it
+cut-next : (s : Stage) (n : ℕ) → beforeBackAt s n ≡ true → (s ≡ Cut) × (1 < n)
+cut-next Cut n e = (refl, ltb-true 1 n e)
+cut-next Back n e = absurd (never e)
+cut-next Dwell n e = absurd (never e)
+cut-next Out n e = absurd (never e)
+cut-next Across n e = absurd (never e)
+cut-next Over n e = absurd (never e)
+
+pub cut-then-back : (c : Cursor) → beforeBack c ≡ true → (c .stage ≡ Cut) × (afterCut (c .cuts .left - 1) (c .groove .dwell) ≡ Back)
+cut-then-back c e =
+    let h = cut-next (c .stage) (c .cuts .left) e in
+    (h .0, ap (λ (b : Bool). cond b Back (cond (ltb 0 (c .groove .dwell)) Dwell Out)) (lt-ltb 0 (c .cuts .left - 1) (omega (arith, h .1))))
+
+pub two-make : {c k : Cursor} {p : CutAndBack} → Makes c (p .cut) k → Makes k (p .back) (p .rest) → p .rest .stage ≡ Cut → MakesCut c p
+two-make {p = p} a b stage = record { first = a .first ∙ ap (λ (l : List Record). p .cut ∷ l) (b .first); sound = b .sound; more = ap overAt stage }

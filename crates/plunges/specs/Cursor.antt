@@ -17,6 +17,7 @@ use Rattle.grooving.specs.Grooving.{lengthOf, cuts, outTo, deepAt, cutting, dwe
 use Rattle.plunges.specs.declared.cursor.Stage.{Stage}
 use Rattle.plunges.specs.declared.cursor.Stage.the-variants.{Cut, Back, Dwell, Out, Across, Over}
 use Rattle.plunges.specs.declared.cursor.Cursor.{Cursor}
+use Rattle.plunges.specs.declared.cursor.CutAndBack.{CutAndBack}
 
 -- ---- the records that are left
 -- behind the present plunge: the others, and the rapid to the start
@@ -59,6 +60,18 @@ overAt Over = true
 abbrev pub over : Cursor → Bool
 over c = overAt (c .stage)
 
+-- a cut comes next, and a rapid back behind it, since another cut is left
+abbrev pub beforeBackAt : Stage → ℕ → Bool
+beforeBackAt Cut left = ltb 1 left
+beforeBackAt Back left = false
+beforeBackAt Dwell left = false
+beforeBackAt Out left = false
+beforeBackAt Across left = false
+beforeBackAt Over left = false
+
+abbrev pub beforeBack : Cursor → Bool
+beforeBack c = beforeBackAt (c .stage) (c .cuts .left)
+
 -- ---- what the contracts say
 -- the same plunge at another stage
 abbrev pub at : Cursor → Stage → Cursor
@@ -93,3 +106,13 @@ pub record Sound (c : Cursor) : Type 0 where
 pub record Makes (c : Cursor) (made : Record) (behind : Cursor) : Type 0 where
   pub first : restOf c ≡ made ∷ restOf behind
   pub sound : Sound behind
+
+-- a cut and the rapid back, in their order
+abbrev pub cutRow : CutAndBack → List Record
+cutRow p = p .cut ∷ p .back ∷ []
+
+-- both: the first of what is left, and a cursor that has the others, of which there are some
+pub record MakesCut (c : Cursor) (p : CutAndBack) : Type 0 where
+  pub first : restOf c ≡ cutRow p ++ restOf (p .rest)
+  pub sound : Sound (p .rest)
+  pub more : over (p .rest) ≡ false

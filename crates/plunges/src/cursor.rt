@@ -5,12 +5,12 @@ use grooving::groove::Groove;
 use moves::record::Record;
 use whole::signed::Side;
 ghost use mathlib.Core.Path.{_≡_};
-ghost use mathlib.Core.Bool.{false};
+ghost use mathlib.Core.Bool.{true, false};
 ghost use Prim.Native.Nat.{_-_, _<_, _≤_};
 ghost use Rattle.division.specs.Carried.{rowOf};
 ghost use Rattle.grooving.specs.Grooving.{lengthOf, wrong, steps, cuts, deepAt, grooving};
 ghost use Rattle.plunges.specs.declared.cursor.Stage.the-variants.{Cut, Back, Dwell, Out, Across};
-ghost use Rattle.plunges.specs.Cursor.{restOf, over, at, afterCut, Sound, Makes};
+ghost use Rattle.plunges.specs.Cursor.{restOf, over, beforeBack, at, afterCut, Sound, Makes, MakesCut};
 
 // Which record comes next: a cut, the rapid back between two cuts, the dwell, the rapid out, the rapid to the next plunge or to the start, or none.
 pub enum Stage {
@@ -37,6 +37,13 @@ pub struct Cursor {
 
 pub struct Handed {
     pub record: Record,
+    pub rest: Cursor,
+}
+
+// A cut and the rapid back behind it, and what is left behind them.
+pub struct CutAndBack {
+    pub cut: Record,
+    pub back: Record,
     pub rest: Cursor,
 }
 
@@ -193,7 +200,7 @@ fn after_cut(left: u32, dwell: u32) -> Stage
 // A cut, one piece deeper than the one before it.
 fn cut(c: Cursor) -> Handed
     requires { ⌜ Sound c × (c .stage ≡ Cut) ⌝ }
-    ensures { λ r. ⌜ Makes c (r .record) (r .rest) ⌝ }
+    ensures { λ r. ⌜ Makes c (r .record) (r .rest) × (r .rest .stage ≡ afterCut (c .cuts .left - 1) (c .groove .dwell)) ⌝ }
 {
     let groove = c.groove;
     let plunge = c.plunge;
@@ -221,7 +228,7 @@ fn cut(c: Cursor) -> Handed
 // The rapid back between two cuts, not past the start.
 fn draw_back(c: Cursor) -> Handed
     requires { ⌜ Sound c × (c .stage ≡ Back) ⌝ }
-    ensures { λ r. ⌜ Makes c (r .record) (r .rest) ⌝ }
+    ensures { λ r. ⌜ Makes c (r .record) (r .rest) × (r .rest .stage ≡ Cut) ⌝ }
 {
     let groove = c.groove;
     let to = deep_at(groove, drawn_back(c.deep, groove.back));
@@ -304,4 +311,38 @@ fn go_on(c: Cursor) -> Handed
         several: true,
     };
     Handed { record, rest }
+}
+
+// Whether the next two records are a cut and the rapid back behind it.
+pub fn is_before_back(c: Cursor) -> bool
+    ensures { λ r. ⌜ r ≡ beforeBack c ⌝ }
+{
+    let stage = c.stage;
+    let cuts = c.cuts;
+    match stage {
+        Stage::Cut => 1 < cuts.left,
+        Stage::Back => false,
+        Stage::Dwell => false,
+        Stage::Out => false,
+        Stage::Across => false,
+        Stage::Over => false,
+    }
+}
+
+// These two records at once.
+pub fn next_cut(c: Cursor) -> CutAndBack
+    requires { ⌜ Sound c × (beforeBack c ≡ true) ⌝ }
+    ensures { λ r. ⌜ MakesCut c r ⌝ }
+{
+    let first = cut(c);
+    let down = first.record;
+    let below = first.rest;
+    let second = draw_back(below);
+    let back = second.record;
+    let rest = second.rest;
+    CutAndBack {
+        cut: down,
+        back,
+        rest,
+    }
 }

@@ -1,2 +1,2 @@
 -- The definitions that the contracts of this crate cite.
-pub mod Passes
+pub mod Cycles

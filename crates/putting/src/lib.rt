@@ -6,7 +6,6 @@ use moves::record::Origin;
 use stages::cursor::Cursor;
 use stages::cursor::Due;
 use state::modal::State;
-use turning::cursor::Passed;
 ghost use mathlib.Core.Path.{_≡_};
 ghost use mathlib.Core.Bool.{true};
 ghost use Prim.Native.Nat.{_+_, _*_, _≤_};
@@ -16,67 +15,32 @@ ghost use Rattle.moves.specs.Form.{recordSize, recordStart, rowFrom};
 ghost use Rattle.asking.specs.Judge.{doing};
 ghost use Rattle.deeds.specs.Known.{Right, Known};
 ghost use Rattle.writing.specs.Writes.{writes};
-ghost use Rattle.turning.specs.Cursor.{passRow};
 ghost use Rattle.stages.specs.Cursor.{restOf, DueSound, Sound};
-ghost use Rattle.putting.specs.Passes.{cycleRow, Unbegun, unbegun, turningRow};
+ghost use Rattle.putting.specs.Cycles.{atHand, cycleRow};
 
-// The bytes of the four records of a pass.
-const PASS_SIZE: usize = 4 * moves::RECORD_SIZE;
-
-// Writes the four records of a pass at the front of the part that it is lent.
-fn put_pass(part: &mut [u8], pass: Passed, origin: Origin)
-    requires { ⌜ recordSize * length (passRow pass) ≤ length (now part) ⌝ }
-    ensures { λ _. ⌜ now (part .exit) ≡ laid (now (part .entry)) 0 (rowFrom origin (passRow pass)) ⌝ }
-{
-    let inward = pass.inward;
-    let along = pass.along;
-    let outward = pass.outward;
-    let home = pass.home;
-    moves::list::put_record(part, inward, origin);
-    moves::list::put_record(&mut part[moves::RECORD_SIZE..], along, origin);
-    moves::list::put_record(&mut part[2 * moves::RECORD_SIZE..], outward, origin);
-    moves::list::put_record(&mut part[3 * moves::RECORD_SIZE..], home, origin);
-}
-
-// Writes a turning cycle of which no pass is begun, its next record's first byte at `first`, and answers the place behind its last.
-fn put_passes(buf: &mut [u8], first: usize, c: turning::cursor::Cursor, origin: Origin) -> usize
-    requires { ⌜ Unbegun c × (first + recordSize * length (cycleRow c) ≤ length (now buf)) ⌝ }
-    ensures { λ r. ⌜ (r ≡ first + recordSize * length (cycleRow c)) × (now (buf .exit) ≡ laid (now (buf .entry)) first (rowFrom origin (cycleRow c))) ⌝ }
-{
-    let mut left = c;
-    let mut at = first;
-    while !turning::cursor::is_over(left) {
-        let passed = turning::cursor::next_pass(left);
-        put_pass(&mut buf[at..], passed, origin);
-        left = passed.rest;
-        at += PASS_SIZE;
-    }
-    at
-}
-
-// Whether a turning cycle is due of which no pass is begun.
-fn is_unbegun(due: Due) -> bool
-    ensures { λ r. ⌜ r ≡ unbegun due ⌝ }
+// Whether a cycle is due that is written with its cursor at hand: a turning cycle of which no pass is begun, or a groove.
+fn is_at_hand(due: Due) -> bool
+    ensures { λ r. ⌜ r ≡ atHand due ⌝ }
 {
     match due {
         Due::Turning(c) => turning::cursor::is_before_pass(c),
         Due::Threading(_) => false,
-        Due::Grooving(_) => false,
+        Due::Grooving(_) => true,
         Due::Drilling(_) => false,
         Due::Single(_) => false,
     }
 }
 
 // Writes such a cycle, its next record's first byte at `first`, and answers the place behind its last.
-fn put_turning(buf: &mut [u8], first: usize, due: Due, origin: Origin) -> usize
-    requires { ⌜ DueSound due × (unbegun due ≡ true) × (first + recordSize * length (turningRow due) ≤ length (now buf)) ⌝ }
-    ensures { λ r. ⌜ (r ≡ first + recordSize * length (turningRow due)) × (now (buf .exit) ≡ laid (now (buf .entry)) first (rowFrom origin (turningRow due))) ⌝ }
+fn put_cycle(buf: &mut [u8], first: usize, due: Due, origin: Origin) -> usize
+    requires { ⌜ DueSound due × (atHand due ≡ true) × (first + recordSize * length (cycleRow due) ≤ length (now buf)) ⌝ }
+    ensures { λ r. ⌜ (r ≡ first + recordSize * length (cycleRow due)) × (now (buf .exit) ≡ laid (now (buf .entry)) first (rowFrom origin (cycleRow due))) ⌝ }
 {
     match due {
-        Due::Turning(c) => put_passes(buf, first, c, origin),
+        Due::Turning(c) => passing::put_passes(buf, first, c, origin),
+        Due::Grooving(c) => plunging::put_plunges(buf, first, c, origin),
         // it is no other: no caller comes here
         Due::Threading(_) => first,
-        Due::Grooving(_) => first,
         Due::Drilling(_) => first,
         Due::Single(_) => first,
     }
@@ -92,9 +56,9 @@ pub fn put_rest(buf: &mut [u8], first: usize, c: Cursor, origin: Origin)
     let mut due = c.due;
     let mut at = first;
     while !handing::is_over(plan, due) {
-        // a pass at a time, so that the cursor is not put into `due` and taken out of it for each record
-        if is_unbegun(due) {
-            at = put_turning(buf, at, due, origin);
+        // the cursor at hand, so that it is not put into `due` and taken out of it for each record
+        if is_at_hand(due) {
+            at = put_cycle(buf, at, due, origin);
             due = Due::Single(stages::cursor::stage_behind(plan.stops));
             continue;
         }

@@ -1,19 +1,18 @@
--- `putting::put_rest` meets its contract. The loop's invariant: some records are written, and what is due has the others. The measure is how many are left, and whether a turning cycle is due.
+-- `putting::put_rest` meets its contract. The loop's invariant: some records are written, and what is due has the others. The measure is how many are left, and whether a cycle is due.
 use borrow.Author.Needs.{needs}
-use mathlib.Core.Path.{_≡_, refl, sym, ap, _∙_}
-use mathlib.Core.Bool.{Bool, true, false, not}
-use mathlib.Core.List.{_++_}
+use borrow.Author.Tests.{not-true, not-false}
+use mathlib.Core.Path.{_≡_, sym, _∙_}
+use mathlib.Core.Bool.{true}
 use Prim.Native.Nat.{_+_, _*_, _≤_}
 use native.Mathlib.Omega.{arith}
 use lib.ListN.{length}
 use Rattle.whole.proofs.Laying.{lent}
 use Rattle.moves.specs.Form.{recordSize, recordBytes, listed}
 use Rattle.stages.specs.Cursor.{restOf, Sound}
-use Rattle.stages.specs.declared.cursor.Due.the-variants.{Single}
 use Rattle.handing.proofs.Cursors.{rest-none}
-use Rattle.putting.specs.Passes.{unbegun, turningRow}
-use Rattle.putting.proofs.Putting.{Written, none-written, one-written, some-written, all-written, written-room, some-room, written-length, rest-less}
-use Rattle.putting.proofs.Passing.{behind-it, turning-first, weight, lighter, weight-few}
+use Rattle.moves.proofs.Written.{Written, none-written, one-written, some-written, all-written, written-room, some-room, written-length, rest-less}
+use Rattle.putting.specs.Cycles.{atHand, cycleRow}
+use Rattle.putting.proofs.Cycles.{behind-it, cycle-first, weight, lighter, weight-few}
 use Rattle.putting.proofs.put_rest.Statement.{statement}
 use Rattle.putting.proofs.put_rest.Tie as tie
 
@@ -22,14 +21,6 @@ Inv-loop buf₀ first origin plan due₀ at₀ buf due at = Sound plan due × Wr
 
 abbrev μ-loop : tie.MeasureT-loop
 μ-loop buf₀ first origin plan due₀ at₀ buf due at = 2 * length (restOf plan due) + weight due
-
-was-false : (b : Bool) → not b ≡ true → b ≡ false
-was-false true e = sym e
-was-false false e = refl
-
-was-true : (b : Bool) → not b ≡ false → b ≡ true
-was-true true e = refl
-was-true false e = sym e
 
 abbrev loop-of : tie.After-next Inv-loop μ-loop → tie.At-loop Inv-loop μ-loop
 loop-of n = n .before .before .before .before .before
@@ -40,24 +31,24 @@ has-room n =
     let l = loop-of n in
     written-room (l .before .before .before .pre .1) (l .loop .inv .1) (n .next .result .«record») _ (n .next .ensures .first)
 
--- a turning cycle is due of which no pass is begun
+-- a cycle is due whose cursor is at hand
 abbrev loop-by : tie.Then2 Inv-loop μ-loop → tie.At-loop Inv-loop μ-loop
 loop-by t = t .before .before .before .before
 
-whole-due : (t : tie.Then2 Inv-loop μ-loop) → unbegun (loop-by t .loop .due) ≡ true
-whole-due t = sym (t .before .is-unbegun .ensures) ∙ t .if2 .taken
+whole-due : (t : tie.Then2 Inv-loop μ-loop) → atHand (loop-by t .loop .due) ≡ true
+whole-due t = sym (t .before .is-at-hand .ensures) ∙ t .if2 .taken
 
 loop-holds : tie.Need-loop-holds Inv-loop μ-loop
 loop-holds c = (c .before .before .pre .0, none-written _ _ _ _)
 
-put-turning-requires : tie.Need-put-turning-requires Inv-loop μ-loop
-put-turning-requires c κs =
+put-cycle-requires : tie.Need-put-cycle-requires Inv-loop μ-loop
+put-cycle-requires c κs =
     let t = c .before in
     let l = loop-by t in
     let e = whole-due t in (
       l .loop .inv .0 .due,
       e,
-      some-room (l .before .before .before .pre .1) (l .loop .inv .1) (turningRow (l .loop .due)) _ (turning-first _ (l .loop .due) e),
+      some-room (l .before .before .before .pre .1) (l .loop .inv .1) (cycleRow (l .loop .due)) _ (cycle-first _ (l .loop .due) e),
     )
 
 loop-less : tie.Need-loop-less Inv-loop μ-loop
@@ -71,13 +62,13 @@ loop-again c =
     let q = c .before .before .before in
     let t = q .before .before in
     let l = loop-by t in
-    let w = some-written (l .before .before .before .pre .1) (l .loop .inv .1) (turningRow (l .loop .due)) _ (behind-it _ (l .loop .due) (whole-due t) (c .stage-behind .ensures)) (q .put-turning .ensures .1) in
-    (record { plan = l .loop .inv .0 .plan; due = tt }, rw (q .put-turning .ensures .0) w)
+    let w = some-written (l .before .before .before .pre .1) (l .loop .inv .1) (cycleRow (l .loop .due)) _ (behind-it _ (l .loop .due) (whole-due t) (c .stage-behind .ensures)) (q .put-cycle .ensures .1) in
+    (record { plan = l .loop .inv .0 .plan; due = tt }, rw (q .put-cycle .ensures .0) w)
 
 next-requires : tie.Need-next-requires Inv-loop μ-loop
 next-requires c κs =
     let t = c .before .before in
-    (t .before .before .loop .inv .0, sym (t .before .is-over .ensures) ∙ was-false _ (t .if1 .taken))
+    (t .before .before .loop .inv .0, sym (t .before .is-over .ensures) ∙ not-true _ (t .if1 .taken))
 
 sub-put-record : tie.Need-sub-put-record Inv-loop μ-loop
 sub-put-record c = omega (arith, has-room (c .before))
@@ -122,7 +113,7 @@ same-length c =
 returns : tie.Need-returns Inv-loop μ-loop
 returns c =
     let l = c .before .before in
-    all-written (l .before .before .before .pre .1) (l .loop .inv .1) (rest-none _ (l .loop .due) (sym (c .before .is-over .ensures) ∙ was-true _ (c .if1 .left)))
+    all-written (l .before .before .before .pre .1) (l .loop .inv .1) (rest-none _ (l .loop .due) (sym (c .before .is-over .ensures) ∙ not-false _ (c .if1 .left)))
 
 pub put-rest-spec : {M : Type 1} → statement M
 put-rest-spec =
@@ -133,7 +124,7 @@ put-rest-spec =
     loop-holds
     (λ c κs. search needs)
     (λ c κs. search needs)
-    put-turning-requires
+    put-cycle-requires
     (λ c κs. search needs)
     loop-less
     loop-again

@@ -1,13 +1,14 @@
 -- `plunges::cursor::cut` meets its contract.
 use mathlib.Core.Path.{ap, _∙_}
-use Prim.Native.Nat.{_+_}
+use Prim.Native.Nat.{ℕ, _+_}
 use native.Mathlib.Omega.{arith}
 use mir.Syntax.{w32}
 use mir.Val.{SFits}
 use mir.Facts.{toZ-ofZ}
 use borrow.Author.Needs.{needs, sfits-of}
 use Rattle.axes.specs.Goes.{feedTo}
-use Rattle.plunges.proofs.Cursors.{is-ready, reaches, cuts-on}
+use Rattle.plunges.specs.Cursor.{afterCut}
+use Rattle.plunges.proofs.Cursors.{is-ready, reaches, one-fewer, cuts-on}
 use Rattle.plunges.proofs.cursor.cut.Statement.{statement}
 use Rattle.plunges.proofs.cursor.cut.Tie as tie
 
@@ -37,11 +38,13 @@ returns c =
     let s = h .before .before .before .before .before in
     let k = s .args .c in
     let g = k .groove in
-    let to = toZ-ofZ (sfits-of {w = w32} (d .deep-at .ok)) ∙ d .deep-at .ensures in
-    cuts-on k (s .pre .0) (h .hand-out .result .rest) (h .hand-out .ensures) (s .pre .1) to
-    (c .before .feed-to .ensures ∙ ap (feedTo (g .facing) (g .f) (g .g95) _) (toZ-ofZ (width-held s)))
-    (c .after-cut .ensures)
-    (λ i. record { groove = g; stage = c .after-cut .result; width = toZ-ofZ (width-held s) i; deep = k .deep + h .hand-out .result .piece; cuts = h .hand-out .result .rest; plunge = k .plunge; steps = k .steps; several = k .several })
+    let to = toZ-ofZ (sfits-of {w = w32} (d .deep-at .ok)) ∙ d .deep-at .ensures in (
+      cuts-on k (s .pre .0) (h .hand-out .result .rest) (h .hand-out .ensures) (s .pre .1) to
+          (c .before .feed-to .ensures ∙ ap (feedTo (g .facing) (g .f) (g .g95) _) (toZ-ofZ (width-held s)))
+          (c .after-cut .ensures)
+          (λ i. record { groove = g; stage = c .after-cut .result; width = toZ-ofZ (width-held s) i; deep = k .deep + h .hand-out .result .piece; cuts = h .hand-out .result .rest; plunge = k .plunge; steps = k .steps; several = k .several }),
+      c .after-cut .ensures ∙ ap (λ (n : ℕ). afterCut n (g .dwell)) (one-fewer k (s .pre .0) (h .hand-out .result .rest) (h .hand-out .ensures)),
+    )
 
 pub cut-spec : {M : Type 1} → statement M
 cut-spec =

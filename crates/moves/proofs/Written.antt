@@ -1,16 +1,16 @@
--- The records of a row that are written, and those that are left: the loop of the writer.
+-- The records of a row that are written, and those that are left: the loops that write.
 -- Assumes nothing.
-use mathlib.Core.Path.{_≡_, refl, sym, ap, _∙_}
+use mathlib.Core.Path.{_≡_, refl, sym, ap, subst, _∙_}
 use mathlib.Core.List.{List, [], _∷_, _++_, append-assoc, append-nil}
-use Prim.Native.Nat.{ℕ, suc, _+_, _*_, _≤_, _<_}
+use Prim.Native.Nat.{ℕ, _+_, _*_, _≤_, _<_}
 use native.Mathlib.Omega.{arith}
 use lib.ListN.{length, length-append}
 use Rattle.whole.specs.Bytes.{laid}
 use Rattle.whole.proofs.Laying.{laid-nil, laid-on, length-laid}
 use Rattle.moves.specs.declared.record.Record.{Record}
 use Rattle.moves.specs.declared.record.Origin.{Origin}
 use Rattle.moves.specs.Form.{recordSize, recordBytes, listed, rowFrom}
 use Rattle.moves.proofs.Rows.{length-from, from-none, from-one, from-append}
 
 -- some of the row c is written from the place `first` on, as it came from the block o, `now` has the others, and the next is due at the place `at`
 pub record Written (o : Origin) (b₀ : List ℕ) (first : ℕ) (c : List Record) (b : List ℕ) (now : List Record) (at : ℕ) : Type 0 where
@@ -25,6 +25,9 @@ none-written o b₀ first c = record { done = []; same = refl; place = omega ari
 module _ {o : Origin} {b₀ : List ℕ} {first : ℕ} {c : List Record} (room : first + recordSize * length c ≤ length b₀) {b : List ℕ} {now : List Record} {at : ℕ} (w : Written o b₀ first c b now at) where
   count : length c ≡ length (w .done) + length now
   count = ap length (w .same) ∙ length-append (w .done) now
+
+  pub left-few : length now ≤ length c
+  left-few = omega (arith, count)
 
   pub written-length : length b ≡ length b₀
   written-length = ap length (w .buffer) ∙ length-laid b₀ first (rowFrom o (w .done)) (omega (arith, length-from o (w .done), count, room))
@@ -49,6 +52,13 @@ module _ {o : Origin} {b₀ : List ℕ} {first : ℕ} {c : List Record} (room : 
           ∙ laid-on b₀ first (rowFrom o (w .done)) (rowFrom o rs) at (omega (arith, w .place, length-from o (w .done))) (omega (arith, w .place, count, more, room))
           ∙ ap (laid b₀ first) (sym (from-append o (w .done) rs));
     }
+
+  -- all that are left have room, and some of them may be written by a loop of their own
+  pub left-room : at + recordSize * length now ≤ length b
+  left-room = some-room now [] (sym (append-nil now))
+
+  pub written-on : {u : List ℕ} {rest : List Record} {to : ℕ} → Written o b at now u rest to → Written o b₀ first c u rest to
+  written-on {u} {rest} v = subst (Written o b₀ first c u rest) (sym (v .place)) (some-written (v .done) rest (v .same) (v .buffer))
 
   -- one record more
   module _ (r : Record) (rest : List Record) (e : now ≡ r ∷ rest) where

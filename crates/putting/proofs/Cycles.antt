@@ -1,4 +1,4 @@
--- A turning cycle that is due and is written a pass at a time.
+-- A cycle that is due and is written with its cursor at hand.
 -- Assumes nothing.
 use mathlib.Core.Path.{_≡_, refl, sym, ap, subst, _∙_}
 use mathlib.Core.Bool.{true, false, false≢true}
@@ -12,26 +12,23 @@ use Rattle.moves.specs.Form.{recordSize, rowFrom}
 use Rattle.moves.specs.declared.record.Record.{Record}
 use Rattle.moves.specs.declared.record.Origin.{Origin}
 use Rattle.moves.proofs.Rows.{from-none}
-use Rattle.stages.specs.Cursor.{behindDeed, restFrom, restOf, stageBehind, DueSound}
+use Rattle.stages.specs.Cursor.{behindDeed, restFrom, restOf, stageBehind}
 use Rattle.stages.specs.declared.cursor.Stage.{Stage}
 use Rattle.stages.specs.declared.cursor.Due.{Due}
 use Rattle.stages.specs.declared.cursor.Due.the-variants.{Turning, Threading, Grooving, Drilling, Single}
 use Rattle.stages.specs.declared.cursor.Plan.{Plan}
 use Rattle.stages.proofs.Cursors.{behind-follows}
-use Rattle.putting.specs.Passes.{cycleRow, Unbegun, unbegun, turningRow}
+use Rattle.putting.specs.Cycles.{atHand, cycleRow}
 
 -- ---- what was written, of the cycle that was told
 abbrev Laid : Origin → List ℕ → ℕ → List Record → ℕ → List ℕ → Type 0
 Laid o b first row r v = (r ≡ first + recordSize * length row) × (v ≡ laid b first (rowFrom o row))
 
-pub told-unbegun : {due : Due} {c : _} → due ≡ Turning c → DueSound due → unbegun due ≡ true → Unbegun c
-told-unbegun e sound before = record { sound = subst DueSound e sound; before = sym (ap unbegun e) ∙ before }
-
 module _ (o : Origin) (b : List ℕ) (first : ℕ) (due : Due) where
-  pub told-laid : {c : _} {v : List ℕ} {r : ℕ} → due ≡ Turning c → Laid o b first (cycleRow c) r v → Laid o b first (turningRow due) r v
-  told-laid {v = v} {r} e h = subst (λ (d : Due). Laid o b first (turningRow d) r v) (sym e) h
+  pub told-laid : {d : Due} {v : List ℕ} {r : ℕ} → due ≡ d → Laid o b first (cycleRow d) r v → Laid o b first (cycleRow due) r v
+  told-laid {v = v} {r} e h = subst (λ (d : Due). Laid o b first (cycleRow d) r v) (sym e) h
 
-  pub none-laid : turningRow due ≡ [] → Laid o b first (turningRow due) first b
+  pub none-laid : cycleRow due ≡ [] → Laid o b first (cycleRow due) first b
   none-laid e = (
     omega (arith, ap length e),
     sym (ap (λ (l : List Record). laid b first (rowFrom o l)) e ∙ ap (laid b first) (from-none o) ∙ laid-nil b first),
@@ -41,29 +38,29 @@ module _ (o : Origin) (b : List ℕ) (first : ℕ) (due : Due) where
 never : {A : Type 0} → false ≡ true → A
 never e = absurd (false≢true e)
 
-pub turning-first : (p : Plan) (d : Due) → unbegun d ≡ true → restOf p d ≡ turningRow d ++ behindDeed p
+pub cycle-first : (p : Plan) (d : Due) → atHand d ≡ true → restOf p d ≡ cycleRow d ++ behindDeed p
 unfolding restOf restFrom
-turning-first p (Turning c) e = refl
-turning-first p (Threading c) e = never e
-turning-first p (Grooving c) e = never e
-turning-first p (Drilling c) e = never e
-turning-first p (Single k) e = never e
+cycle-first p (Turning c) e = refl
+cycle-first p (Threading c) e = never e
+cycle-first p (Grooving c) e = refl
+cycle-first p (Drilling c) e = never e
+cycle-first p (Single k) e = never e
 
-pub behind-it : (p : Plan) (d : Due) {k : Stage} → unbegun d ≡ true → k ≡ stageBehind (p .stops) → restOf p d ≡ turningRow d ++ restOf p (Single k)
-behind-it p d e is = turning-first p d e ∙ ap (λ (l : List Record). turningRow d ++ l) (sym (behind-follows p is .same))
+pub behind-it : (p : Plan) (d : Due) {k : Stage} → atHand d ≡ true → k ≡ stageBehind (p .stops) → restOf p d ≡ cycleRow d ++ restOf p (Single k)
+behind-it p d e is = cycle-first p d e ∙ ap (λ (l : List Record). cycleRow d ++ l) (sym (behind-follows p is .same))
 
--- ---- the measure of the loop: what is left, and whether a turning cycle is due, which may have no record
+-- ---- the measure of the loop: what is left, and whether a cycle is due, which may have no record
 abbrev pub weight : Due → ℕ
 weight (Turning c) = 1
 weight (Threading c) = 0
-weight (Grooving c) = 0
+weight (Grooving c) = 1
 weight (Drilling c) = 0
 weight (Single k) = 0
 
-pub lighter : (p : Plan) (d : Due) (k : Stage) (rest : List Record) → unbegun d ≡ true → restOf p d ≡ turningRow d ++ rest → 2 * length rest + weight (Single k) < 2 * length (restOf p d) + weight d
-lighter p (Turning c) k rest e is = omega (arith, ap length is ∙ length-append (cycleRow c) rest)
+pub lighter : (p : Plan) (d : Due) (k : Stage) (rest : List Record) → atHand d ≡ true → restOf p d ≡ cycleRow d ++ rest → 2 * length rest + weight (Single k) < 2 * length (restOf p d) + weight d
+lighter p (Turning c) k rest e is = omega (arith, ap length is ∙ length-append (cycleRow (Turning c)) rest)
 lighter p (Threading c) k rest e is = never e
-lighter p (Grooving c) k rest e is = never e
+lighter p (Grooving c) k rest e is = omega (arith, ap length is ∙ length-append (cycleRow (Grooving c)) rest)
 lighter p (Drilling c) k rest e is = never e
 lighter p (Single s) k rest e is = never e
 

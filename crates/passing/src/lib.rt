@@ -1,0 +1,36 @@
+// A turning cycle is written a pass at a time, so that its cursor stays where it is from pass to pass. The room for all of it was asked for before (alarm 20).
+use moves::record::Origin;
+use turning::cursor::Cursor;
+ghost use mathlib.Core.Path.{_≡_};
+ghost use mathlib.Core.Bool.{true};
+ghost use Prim.Native.Nat.{_+_, _*_, _≤_};
+ghost use lib.ListN.{length};
+ghost use Rattle.whole.specs.Bytes.{laid};
+ghost use Rattle.moves.specs.Form.{recordSize, rowFrom};
+ghost use Rattle.turning.specs.Cursor.{restOf, beforePass, Sound};
+
+// The bytes of the four records of a pass, and of two of them.
+const PASS_SIZE: usize = 4 * moves::RECORD_SIZE;
+
+const HALF_PASS: usize = 2 * moves::RECORD_SIZE;
+
+// Writes a turning cycle of which no pass is begun, its next record's first byte at `first`, and answers the place behind its last.
+pub fn put_passes(buf: &mut [u8], first: usize, c: Cursor, origin: Origin) -> usize
+    requires { ⌜ Sound c × (beforePass c ≡ true) × (first + recordSize * length (restOf c) ≤ length (now buf)) ⌝ }
+    ensures { λ r. ⌜ (r ≡ first + recordSize * length (restOf c)) × (now (buf .exit) ≡ laid (now (buf .entry)) first (rowFrom origin (restOf c))) ⌝ }
+{
+    let mut left = c;
+    let mut at = first;
+    while !turning::cursor::is_over(left) {
+        let passed = turning::cursor::next_pass(left);
+        let home = passed.home;
+        let outward = passed.outward;
+        let along = passed.along;
+        let inward = passed.inward;
+        moves::list::put_two(&mut buf[at..], inward, along, origin);
+        moves::list::put_two(&mut buf[at + HALF_PASS..], outward, home, origin);
+        left = passed.rest;
+        at += PASS_SIZE;
+    }
+    at
+}
