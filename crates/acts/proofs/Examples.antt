@@ -2,10 +2,9 @@
 -- Assumes nothing.
 use mathlib.Core.Path.{_≡_, refl}
 use mathlib.Core.Bool.{true, false}
-use mathlib.Core.List.{List, [], _∷_, map}
+use mathlib.Core.List.{[], _∷_, map}
 use Prim.Native.Nat.{ℕ}
 use Rattle.acts.specs.declared.acting.Kept.the-variants as kept
-use Rattle.codes.specs.declared.meaning.Code.{Code}
 use Rattle.codes.specs.declared.meaning.Code.the-variants.{Of, Unknown}
 use Rattle.codes.specs.declared.meaning.Meaning.the-variants as means
 use Rattle.codes.specs.declared.meaning.Motion.the-variants as motion

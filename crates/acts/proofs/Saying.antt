@@ -8,7 +8,6 @@ use Prim.Native.Nat.{ℕ}
 use native.Mathlib.Omega.{arith}
 use types.Run.{OneOf}
 use denote.Enum.Declared.{tagOf}
-use Rattle.codes.specs.declared.meaning.Code.{Code}
 use Rattle.codes.specs.declared.meaning.Code.the-variants as code
 use Rattle.codes.specs.declared.meaning.Flow.{Flow}
 use Rattle.codes.specs.declared.meaning.Flow.the-variants as flow

@@ -1,7 +1,7 @@
 -- Laws of words: what `formOf` answers on a range of bytes, the bounds of the next word, and the words of a line opened one word at a time.
 -- Assumes nothing.
 use Prim.Native.Nat.{ℕ, zero, suc, _+_, _-_, _<_, _≤_}
-use mathlib.Core.Bool.{Bool, true, false, cond, _&&_, _||_}
+use mathlib.Core.Bool.{Bool, true, false, cond, _||_}
 use mathlib.Core.List.{List}
 use mathlib.Core.Path.{_≡_, refl, sym, ap, _∙_}
 use native.Mathlib.Omega.{arith}
@@ -9,12 +9,11 @@ use borrow.Author.Tests.{ltb-true, le-ltb}
 use lib.Dec.{T, eqb, eqb→eq, ltb}
 use lib.ListN.{length, take, drop, getD}
 use Rattle.whole.specs.Among.{among}
-use Rattle.letters.specs.Letters.{equals, digitZero, letterD, letterP}
 use Rattle.numbers.specs.declared.NumberForm.{NumberForm}
 use Rattle.numbers.specs.declared.NumberForm.the-variants.{Path, TwoDigits, FourDigits, FiveDigits, DNumber}
 use Rattle.numbers.specs.declared.Number.{Number}
 use Rattle.numbers.specs.declared.Number.the-variants.{Value, Bad}
-use Rattle.numbers.specs.Numbers.{isDigit, numberOf}
+use Rattle.numbers.specs.Numbers.{numberOf}
 use Rattle.tape.specs.declared.line.Gap.{Gap}
 use Rattle.tape.specs.declared.line.Gap.the-variants as gap
 use Rattle.tape.specs.Lines.{seekFrom, gapOf, GapIn}

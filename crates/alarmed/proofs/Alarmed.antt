@@ -1,41 +1,35 @@
 -- Every answer stands on what was judged and done, and where nothing refuses there is a list.
 -- Assumes nothing.
-use mathlib.Core.Path.{_≡_, refl, sym, ap, subst, _∙_}
+use mathlib.Core.Path.{_≡_, refl, sym, ap, _∙_}
 use mathlib.Core.Bool.{Bool, true, false, cond, not, _||_}
 use mathlib.Core.List.{List, [], _∷_}
-use Prim.Native.Nat.{ℕ, zero, suc, _+_, _<_, _≤_}
+use Prim.Native.Nat.{ℕ, suc}
 use native.Mathlib.Omega.{arith}
 use lib.Dec.{ltb, leb·suc-suc}
-use lib.IntN.{ℤ}
-use lib.ListN.{length, take}
+use lib.ListN.{length}
 use borrow.Author.Tests.{lt-ltb}
-use Rattle.alarms.specs.Numbers.{noProgram, programMissing}
+use Rattle.alarms.specs.Numbers.{noProgram}
 use Rattle.moves.specs.Form.{headerSize}
 use Rattle.settings.specs.Wrong.{settingsWrong}
-use Rattle.settings.specs.declared.control.Settings.{Settings}
-use Rattle.tape.specs.Lines.{seek, opensTape, lines}
+use Rattle.tape.specs.Lines.{seek, opensTape}
 use Rattle.block.specs.Slots.{anyOf}
 use Rattle.reading.specs.Reading.{nothingRead}
-use Rattle.reading.specs.Filling.{nothingFilled, Readings, readWith}
+use Rattle.reading.specs.Filling.{nothingFilled, readWith}
 use Rattle.reading.specs.declared.read.Read.{Read}
 use Rattle.reading.specs.declared.read.Read.the-variants as read
-use Rattle.finding.specs.Finding.{findProgram}
 use Rattle.places.specs.declared.Found.{Found}
 use Rattle.places.specs.declared.Found.the-variants.{At, Nowhere}
 use Rattle.ahead.specs.Ahead.{mostCalls}
-use Rattle.taking.specs.Steps.{Task, Step}
-use Rattle.taking.specs.declared.step.Run.{Run}
+use Rattle.taking.specs.Steps.{Task}
 use Rattle.runners.specs.Runs.{Ran, programRun}
 use Rattle.runners.specs.declared.run.Ending.{Ending}
 use Rattle.runners.specs.declared.run.Ending.the-variants.{Returned, Ended, Stopped}
 use Rattle.answers.specs.Answers.{answerBy, startOf}
-use Rattle.answers.specs.declared.Answer.{Answer}
-use Rattle.answers.specs.declared.Answer.the-variants.{Complete, Alarm}
+use Rattle.answers.specs.declared.Answer.the-variants.{Alarm}
 use Rattle.interpreter.specs.Answers.{Result, refused, resultOf, mainAt, mainBy, mainRun, readThen, longestTape, interpretationBy, interpretation}
-use Rattle.alarmed.specs.Order.{Passes, none, no, Refused, yes, later}
+use Rattle.alarmed.specs.Order.{Passes, none, no, yes, later}
 use Rattle.alarmed.specs.Tests.{Input, settingsBad, tooLong, tooShort, unopened, inputOrder}
-use Rattle.alarmed.specs.Walking.{Standing, standing, Walk, RunRefused}
-use Rattle.alarmed.specs.Alarmed.{atFirst, firstOf, linesOf, LineRefused, refuses, ReadTo, all, ended, taskTo, mainIn, begins, Stands, input, line, main, run, list, Free, IsComplete, answered}
+use Rattle.alarmed.specs.Alarmed.{atFirst, firstOf, linesOf, refuses, ReadTo, all, ended, taskTo, mainIn, begins, Stands, input, line, main, run, list, answered}
 use Rattle.alarmed.proofs.Lines.{Came, readFrom, came}
 use Rattle.alarmed.proofs.Lines as lines-of
 use Rattle.alarmed.proofs.Never.{never-returns}

@@ -1,16 +1,14 @@
 -- Nothing but the answer stands on what was judged and done: a walk goes one way, and an order has one first row.
 -- Assumes nothing.
 use mathlib.Core.Path.{_≡_, refl, sym, ap, subst, _∙_}
-use mathlib.Core.Bool.{Bool, true, false, cond, not}
+use mathlib.Core.Bool.{Bool, cond}
 use mathlib.Core.List.{List, [], _∷_, _++_, append-nil}
 use Prim.Native.Nat.{ℕ, zero, suc, _+_}
 use native.Mathlib.Omega.{arith}
-use lib.Dec.{ltb, eqb}
+use lib.Dec.{eqb}
 use lib.ListN.{length}
 use borrow.Author.Tests.{eq-eqb, ne-eqb, not-true, not-false}
-use Rattle.alarms.specs.Numbers.{noProgram, wrongEnd}
-use Rattle.moves.specs.Form.{headerSize}
-use Rattle.settings.specs.Wrong.{settingsWrong}
+use Rattle.alarms.specs.Numbers.{wrongEnd}
 use Rattle.tape.specs.Lines.{opensTape, lines}
 use Rattle.block.specs.Slots.{anyOf}
 use Rattle.reading.specs.Reading.{nothingRead}
@@ -29,7 +27,7 @@ use Rattle.runners.specs.declared.run.Ending.the-variants.{Returned, Ended, Sto
 use Rattle.answers.specs.Answers.{answerBy, startOf}
 use Rattle.answers.specs.declared.Answer.{Answer}
 use Rattle.answers.specs.declared.Answer.the-variants.{Complete, Alarm}
-use Rattle.interpreter.specs.Answers.{Result, refused, resultOf, mainAt, mainBy, mainRun, readThen, longestTape, interpretationBy, interpretation}
+use Rattle.interpreter.specs.Answers.{Result, refused, resultOf, mainAt, mainBy, mainRun, readThen, interpretationBy, interpretation}
 use Rattle.alarmed.specs.Order.{Passes, none, no, Refused, yes, later}
 use Rattle.alarmed.specs.Tests.{Input, settingsBad, tooLong, tooShort, unopened, inputOrder, blockOrder}
 use Rattle.alarmed.specs.Walking.{Open, Standing, standing, begun, after, stepAt, Walk, stay, step, RunRefused, block, early}

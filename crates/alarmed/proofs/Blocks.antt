@@ -1,12 +1,10 @@
 -- A block's alarm is the first of its order.
 -- Assumes nothing.
-use mathlib.Core.Path.{_≡_, refl, sym, ap, subst, _∙_}
+use mathlib.Core.Path.{_≡_, refl, sym, ap, _∙_}
 use mathlib.Core.Bool.{Bool, true, false, cond, not, _&&_, _||_}
-use mathlib.Core.List.{List, [], _∷_}
-use Prim.Native.Nat.{ℕ, zero, suc, _+_, _-_, _<_, _≤_}
+use Prim.Native.Nat.{ℕ, zero, suc, _+_, _-_}
 use native.Mathlib.Omega.{arith}
 use lib.Dec.{leb, ltb, eqb}
-use lib.IntN.{ℤ}
 use lib.ListN.{length}
 use borrow.Author.Tests.{lt-ltb, le-ltb, ltb-true, ltb-false, eq-eqb, ne-eqb, le-leb, lt-leb}
 use Rattle.alarms.specs.Numbers.{programMissing, blockMissing, tooDeep, tooManyBegun, wrongEnd, noMotion, notRapid, badFeed, outsideLimits, badLengths, noRoom}
@@ -14,7 +12,6 @@ use Rattle.moves.specs.declared.record.Record.{Record}
 use Rattle.settings.specs.Wrong.{highestSubroutine}
 use Rattle.settings.specs.Limits.{outside}
 use Rattle.settings.specs.declared.limits.Limits.{Limits}
-use Rattle.settings.specs.declared.control.Settings.{Settings}
 use Rattle.tape.specs.Lines.{lines}
 use Rattle.codes.specs.declared.meaning.Motion.the-variants as motion
 use Rattle.acts.specs.declared.acting.Kept.{Kept}
@@ -31,7 +28,6 @@ use Rattle.cycles.specs.Feeds.{leastOfFeed}
 use Rattle.cycles.specs.declared.Cycle as cycles
 use Rattle.state.specs.Modal.{settled, blockMotion}
 use Rattle.state.specs.Request.{requestOf}
-use Rattle.state.specs.declared.modal.State.{State}
 use Rattle.state.specs.declared.request.Request.{Request}
 use Rattle.state.specs.declared.request.Request.the-variants as asks
 use Rattle.deeds.specs.Deed.{hasPath, hasCentre, straightIf, roundOf, roundIf, moveOf, deedOf}
@@ -40,7 +36,6 @@ use Rattle.deeds.specs.declared.deed.Deed.the-variants.{Nothing, Nowhere as Aim
 use Rattle.scaling.specs.declared.Sending.{Sending}
 use Rattle.asking.specs.Judge.{refused as refusedCycle, ofRecords, asksOf, feedWrong, roomWrong, alarmOf, doing}
 use Rattle.asking.specs.declared.Asked.{Asked}
-use Rattle.asking.specs.declared.Asks.{Asks}
 use Rattle.writing.specs.Writes.{writes, otherCount}
 use Rattle.writing.proofs.Chain.{writes-length}
 use Rattle.verdicts.specs.Verdicts.{sendingOf, deedIn, asksIn, askedIn, alarmIn}
@@ -50,7 +45,7 @@ use Rattle.ahead.specs.declared.Frame.{Frame}
 use Rattle.ahead.specs.declared.ProgramAt.{ProgramAt}
 use Rattle.ahead.specs.declared.Onward.{Onward}
 use Rattle.ahead.specs.declared.Onward.the-variants.{On, Call, Jump, Return, End, Stop}
-use Rattle.taking.specs.Steps.{Task, blockOn, onwardBy, onwardOf, alarmBy, alarmAt}
+use Rattle.taking.specs.Steps.{Task, blockOn, onwardBy, alarmBy, alarmAt}
 use Rattle.taking.specs.declared.step.Run.{Run}
 use Rattle.alarmed.specs.Order.{Passes, Refused}
 use Rattle.alarmed.specs.Tests.{Begun, noneLeft, endsBadly, endBad, nowhere, calls, callBad, jumps, jumpBad, deepens, callDeep, isNone, isStraight, lacksMotion, motionless, otherTraverse, rapidMissing, leastFeed, feedBad, wrongLengths, lengthsBad, goesOutside, outsideBad, recordsOf, overfull, blockOrder}

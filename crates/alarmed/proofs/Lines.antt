@@ -23,7 +23,7 @@ use Rattle.places.proofs.Rows.{inserted-length}
 use Rattle.reading.specs.declared.read.Read.{Read}
 use Rattle.reading.specs.declared.read.Read.the-variants.{Whole, Alarm}
 use Rattle.alarmed.specs.Order.{Passes, Refused}
-use Rattle.alarmed.specs.Tests.{Input, Line, overlong, unreadable, pointMissing, startsBadly, startBad, rulesBroken, isEntry, tableFull, lineOrder}
+use Rattle.alarmed.specs.Tests.{Input, overlong, unreadable, pointMissing, startsBadly, startBad, rulesBroken, isEntry, tableFull, lineOrder}
 use Rattle.alarmed.specs.Alarmed.{Sofar, asLine, with, isLast, Accepted, none, one, Reached}
 use Rattle.alarmed.proofs.Orders.{first, Above, passes, refused, passes-first, refused-first, refused-some}
 

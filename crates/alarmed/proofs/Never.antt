@@ -1,8 +1,8 @@
 -- The clauses of a run that no run reaches.
 -- Assumes nothing.
-use mathlib.Core.Path.{_≡_, refl, sym, ap, subst, _∙_}
+use mathlib.Core.Path.{_≡_, refl, sym, ap, subst}
 use mathlib.Core.Bool.{Bool, true, false, cond, _||_}
-use mathlib.Core.List.{List, [], _∷_}
+use mathlib.Core.List.{[], _∷_}
 use Prim.Native.Nat.{ℕ, zero, suc, _<_, _≤_}
 use native.Mathlib.Omega.{arith}
 use lib.Dec.{ltb, eqb}
@@ -21,9 +21,9 @@ use Rattle.ahead.specs.declared.Frame.{Frame}
 use Rattle.ahead.specs.declared.ProgramAt.{ProgramAt}
 use Rattle.ahead.specs.declared.Onward.{Onward}
 use Rattle.ahead.specs.declared.Onward.the-variants.{On, Call, Jump, Return, End, Stop}
-use Rattle.taking.specs.Steps.{Task, Step, blockOn, onwardBy, onwardOf, alarmAt, runAfter, takenFrom}
+use Rattle.taking.specs.Steps.{Task, Step, blockOn, onwardBy, onwardOf, runAfter}
 use Rattle.taking.specs.declared.step.Run.{Run}
-use Rattle.runners.specs.Runs.{Ran, ran, pre, goBack, andThen, goOn, onward, blocks, enough, repeated, called, entry, programRun}
+use Rattle.runners.specs.Runs.{Ran, pre, goBack, andThen, goOn, onward, blocks, enough, called, entry}
 use Rattle.runners.specs.declared.run.Ending.{Ending}
 use Rattle.runners.specs.declared.run.Ending.the-variants.{Returned, Ended, Stopped}
 use Rattle.alarmed.specs.Never.{NeverReturns, NeverCalls, FuelLasts}

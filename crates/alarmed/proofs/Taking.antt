@@ -1,28 +1,23 @@
 -- One step of a run by what comes of it: the program ends early, its next block is refused, or it is done. And no run gives back blocks that were begun.
 -- Assumes nothing.
-use mathlib.Core.Path.{_≡_, refl, sym, ap, subst, _∙_}
-use mathlib.Core.Bool.{Bool, true, false}
-use mathlib.Core.List.{List, [], _∷_}
-use Prim.Native.Nat.{ℕ, zero, suc, _-_, _<_, _≤_}
+use mathlib.Core.Path.{_≡_, refl, sym, subst}
+use mathlib.Core.List.{[]}
+use Prim.Native.Nat.{ℕ, zero, suc, _<_, _≤_}
 use native.Mathlib.Omega.{arith}
-use lib.ListN.{length}
-use borrow.Author.Tests.{eq-eqb, ne-eqb}
 use Rattle.alarms.specs.Numbers.{wrongEnd}
 use Rattle.tape.specs.Lines.{textAt, lines}
 use Rattle.finding.specs.Finding.{firstBlock}
 use Rattle.places.specs.declared.Found.{Found}
 use Rattle.places.specs.declared.Found.the-variants.{At, Nowhere}
-use Rattle.machine.specs.Blocks.{doneRecords}
 use Rattle.ahead.specs.Ahead.{onto}
 use Rattle.ahead.specs.declared.Frame.{Frame}
 use Rattle.ahead.specs.declared.ProgramAt.{ProgramAt}
 use Rattle.ahead.specs.declared.Onward.{Onward}
 use Rattle.ahead.specs.declared.Onward.the-variants.{On, Call, Jump, Return, End, Stop}
-use Rattle.taking.specs.Steps.{Task, Step, blockOn, onwardOf, alarmBy, alarmAt, runAfter, doneAt, recordsAt, originAt, Taken, takenBy, takenFrom}
+use Rattle.taking.specs.Steps.{Task, Step, blockOn, onwardOf, alarmAt, runAfter, recordsAt, originAt, Taken, takenBy, takenFrom}
 use Rattle.taking.specs.declared.step.Run.{Run}
-use Rattle.taking.specs.declared.step.StepDone.{StepDone}
 use Rattle.taking.proofs.Stepping.{some-left}
-use Rattle.runners.specs.Runs.{Ran, ran, pre, goBack, andThen, goOn, onward, blocks, enough, repeated, called, entry}
+use Rattle.runners.specs.Runs.{Ran, pre, goBack, andThen, goOn, onward, blocks, enough, repeated, called, entry}
 use Rattle.runners.specs.declared.run.Ending.{Ending}
 use Rattle.runners.specs.declared.run.Ending.the-variants.{Returned, Ended, Stopped}
 use Rattle.demands.proofs.Linked.{free-asked, done-free, done-alarm, records-free}

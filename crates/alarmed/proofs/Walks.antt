@@ -2,16 +2,16 @@
 -- Assumes nothing.
 use mathlib.Core.Path.{_≡_, refl, sym, ap, subst, _∙_}
 use mathlib.Core.Bool.{Bool, true, false, cond, _||_}
-use mathlib.Core.List.{List, [], _∷_, _++_, append-nil}
-use Prim.Native.Nat.{ℕ, zero, suc, _+_, _-_, _<_, _≤_}
+use mathlib.Core.List.{List, [], _∷_, _++_}
+use Prim.Native.Nat.{ℕ, zero, suc, _+_, _<_, _≤_}
 use native.Mathlib.Omega.{arith}
 use lib.Dec.{ltb, eqb}
 use lib.ListN.{length}
-use borrow.Author.Tests.{eqb-true, eqb-false, eq-eqb}
+use borrow.Author.Tests.{eqb-false}
 use Rattle.alarms.specs.Numbers.{tooManyBegun, tooDeep, programMissing, wrongEnd}
 use Rattle.tape.specs.Lines.{lineAt, lines}
 use Rattle.settings.specs.Wrong.{highestSubroutine}
-use Rattle.finding.specs.Finding.{findProgram, firstBlock, blockOfProgram}
+use Rattle.finding.specs.Finding.{findProgram, blockOfProgram}
 use Rattle.places.specs.declared.Found.{Found}
 use Rattle.places.specs.declared.Found.the-variants.{At, Nowhere}
 use Rattle.state.specs.Request.{requestOf}
@@ -22,13 +22,13 @@ use Rattle.ahead.specs.declared.Frame.{Frame}
 use Rattle.ahead.specs.declared.ProgramAt.{ProgramAt}
 use Rattle.ahead.specs.declared.Onward.{Onward}
 use Rattle.ahead.specs.declared.Onward.the-variants.{On, Call, Jump, Return, End, Stop}
-use Rattle.taking.specs.Steps.{Task, Step, blockOn, onwardBy, onwardOf, alarmBy, alarmAt, runAfter, takenFrom}
+use Rattle.taking.specs.Steps.{Task, Step, blockOn, onwardBy, onwardOf, alarmBy, alarmAt, runAfter}
 use Rattle.taking.specs.declared.step.Run.{Run}
-use Rattle.runners.specs.Runs.{Ran, ran, pre, goBack, andThen, goOn, onward, blocks, blocksInAll, enough, repeated, called, entry, programRun}
+use Rattle.runners.specs.Runs.{Ran, pre, goBack, andThen, goOn, onward, blocks, blocksInAll, enough, repeated, called, entry, programRun}
 use Rattle.runners.specs.declared.run.Ending.{Ending}
 use Rattle.runners.specs.declared.run.Ending.the-variants.{Returned, Ended, Stopped}
 use Rattle.demands.proofs.Linked.{free-asked}
-use Rattle.alarmed.specs.Walking.{Open, opened, moved, runs, jumped, called as walksInto, goesOn, Standing, standing, after as standsAfter, stepAt, Walk, stay, step, RunRefused, block, early}
+use Rattle.alarmed.specs.Walking.{Open, opened, moved, runs, jumped, called as walksInto, goesOn, Standing, standing, stepAt, Walk, stay, step, RunRefused, block, early}
 use Rattle.alarmed.proofs.Blocks.{block-passes, block-refused}
 use Rattle.alarmed.proofs.Taking.{by-taken, one-fewer, blocks-few, called-few}
 

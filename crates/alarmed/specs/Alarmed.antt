@@ -4,7 +4,6 @@ use mathlib.Core.Path.{_≡_}
 use mathlib.Core.Bool.{Bool, true, false, cond}
 use mathlib.Core.List.{List, [], _∷_, _++_}
 use Prim.Native.Nat.{ℕ, _+_}
-use lib.IntN.{ℤ}
 use lib.ListN.{length, take}
 use Rattle.alarms.specs.Numbers.{programMissing}
 use Rattle.settings.specs.Points.{withPoints}

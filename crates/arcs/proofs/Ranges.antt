@@ -21,7 +21,7 @@ use Rattle.moves.proofs.Last.{Moves, after-move}
 use Rattle.arrows.specs.declared.arrow.Spot.{Spot}
 use Rattle.arcs.specs.declared.arc.Arc.{Arc}
 use Rattle.arcs.specs.declared.arc.CentreWords.{CentreWords}
-use Rattle.arcs.specs.Arcs.{arcOf, endRecord, centreRecord, arcRecords, radius2}
+use Rattle.arcs.specs.Arcs.{arcOf, endRecord, centreRecord, arcRecords}
 use Rattle.arcs.specs.Known.{targetReach, startReach, endReach, InReach, LimitsInReach, Central}
 
 -- ---- one axis: s is the start, i is I or K

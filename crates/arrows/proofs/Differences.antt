@@ -5,7 +5,7 @@ use mathlib.Core.Path.{_≡_, ap}
 use Prim.Native.Nat.{ℕ, suc, _+_, _*_}
 use native.Mathlib.Omega.{arith}
 use lib.IntN.{ℤ, pos, negsuc, negℤ, _+ℤ_, _-ℤ_, _*ℤ_}
-use Rattle.whole.proofs.Integers.{up, down, whole, add-in, sub-in, up-neg, down-neg, eq-out}
+use Rattle.whole.proofs.Integers.{up, down, add-in, sub-in, up-neg, down-neg, eq-out}
 
 pub record Is (z : ℤ) (u d : ℕ) : Type 0 where
   pub is : up z + d ≡ down z + u

@@ -1,7 +1,7 @@
 -- The signs of products in ℤ. `omega` takes `a *ℤ b` for a number of its own: these are the facts that it is handed.
 -- Assumes nothing.
 use mathlib.Core.Path.{_≡_, refl, ap, _∙_}
-use Prim.Native.Nat.{zero, suc, _*_, _≤_, _<_}
+use Prim.Native.Nat.{zero, suc, _<_}
 use native.Mathlib.Nat.{mul-pos}
 use lib.IntN.{ℤ, pos, negsuc, zero-*ℤ, *ℤ-zero, _*ℤ_}
 use lib.Signed.{_≤ℤ_, _<ℤ_}

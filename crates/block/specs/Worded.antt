@@ -2,7 +2,7 @@
 -- of a block that was read.
 use mathlib.Core.Path.{_≡_}
 use mathlib.Core.Bool.{true}
-use Prim.Native.Nat.{ℕ, _+_, _≤_, _<_}
+use Prim.Native.Nat.{ℕ, _≤_, _<_}
 use lib.IntN.{pos, natAbs}
 use lib.ListN.{getD}
 use Rattle.whole.specs.Position.{inTable}

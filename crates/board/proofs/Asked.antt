@@ -1,7 +1,7 @@
 -- ONE MOVE AT A TIME, at the door: the k-th ask behind a start answers with the list engine's record k, and from its count on with its end or alarm.
 -- Assumes nothing.
 use mathlib.Core.Path.{_≡_, refl, sym, ap, subst, _∙_}
-use mathlib.Core.Bool.{Bool, true, false, cond}
+use mathlib.Core.Bool.{cond}
 use mathlib.Core.List.{List, [], _∷_}
 use Prim.Native.Nat.{ℕ, zero, suc, _+_, _*_, _%_, _≤_}
 use native.Mathlib.Omega.{arith}
@@ -13,7 +13,7 @@ use Rattle.reading.specs.Filling.{mostPlaces}
 use Rattle.settings.specs.Row.{unfit, settingsOf}
 use Rattle.answers.specs.Answers.{numberOf, placeOf, countOf}
 use Rattle.answers.specs.declared.Answer.{Answer}
-use Rattle.interpreter.specs.Answers.{Result, refused, interpretation, firstInterpretation}
+use Rattle.interpreter.specs.Answers.{Result, refused}
 use Rattle.interpreter.proofs.Staying.{all-stay}
 use Rattle.resuming.specs.Handed.{Made, Left, leftOf, handedOf, roomy}
 use Rattle.resuming.specs.Handed as left
@@ -22,10 +22,10 @@ use Rattle.paused.specs.Kept.{Fitting}
 use Rattle.inhand.specs.State.{stateWords}
 use Rattle.onemove.specs.declared.Told.{Told}
 use Rattle.onemove.specs.declared.Told.the-variants as told
-use Rattle.onemove.specs.OneMove.{resultAt, wantedAt, Holds, Hands, InTurn}
+use Rattle.onemove.specs.OneMove.{resultAt, Holds, Hands, InTurn}
 use Rattle.onemove.proofs.Turns.{each-in-turn}
 use Rattle.board.specs.Door.{atDoor, firstAtDoor}
-use Rattle.board.specs.Asked.{answerNumber, over, toldNumber, startNumber, StartAtDoor, NextAtDoor, AsksAtDoor, Answers, OneMoveAtDoor, OneMoveLaw}
+use Rattle.board.specs.Asked.{answerNumber, over, toldNumber, startNumber, StartAtDoor, AsksAtDoor, Answers, OneMoveAtDoor, OneMoveLaw}
 use Rattle.board.proofs.Doors.{demand-one-at-door}
 
 -- ---- what is wanted

@@ -8,7 +8,6 @@ use lib.IntN.{ℤ}
 use lib.ListN.{length}
 use Rattle.whole.specs.Bytes.{laid}
 use Rattle.moves.specs.Form.{recordSize, recordBytes}
-use Rattle.moves.specs.declared.record.Listed.{Listed}
 use Rattle.places.specs.Places.{sixteenBits}
 use Rattle.reading.specs.Filling.{mostPlaces}
 use Rattle.answers.specs.Answers.{numberOf, placeOf, countOf}

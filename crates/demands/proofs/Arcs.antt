@@ -1,9 +1,9 @@
 -- THE PROMISE OF ARCS holds of every input: of one block from a place within the limits, along the steps of a run, and off the bytes of the buffer; and a block that asks for an arc writes it.
 -- Assumes nothing.
 use mathlib.Core.Path.{_≡_, refl, sym, ap, _∙_, subst, subst₂}
-use mathlib.Core.Bool.{Bool, true, false, cond, not, _||_}
+use mathlib.Core.Bool.{Bool, true, false, not, _||_}
 use mathlib.Core.List.{List, [], _∷_, _++_, append-assoc}
-use Prim.Native.Nat.{ℕ, _+_, _-_, _<_}
+use Prim.Native.Nat.{ℕ, _-_, _<_}
 use lib.Dec.{T, ltb}
 use lib.IntN.{ℤ}
 use lib.Signed.{ltZ}
@@ -44,7 +44,7 @@ use Rattle.asking.specs.Judge.{asksOf, doing}
 use Rattle.writing.specs.Writes.{oneIf, speedOf, toolOf, mOf, speedAndTool, spindleAndCoolant, moved, done, stops, stopping, writes}
 use Rattle.verdicts.specs.Verdicts.{sendingOf, deedIn, asksIn, alarmIn}
 use Rattle.verdicts.proofs.Passing.{all-passed, right-in}
-use Rattle.machine.specs.Blocks.{doneRecords, doneState}
+use Rattle.machine.specs.Blocks.{doneRecords}
 use Rattle.machine.proofs.Running.{stands-inside}
 use Rattle.ahead.specs.Ahead.{mostCalls, onto}
 use Rattle.ahead.specs.declared.ProgramAt.{ProgramAt}
@@ -55,7 +55,7 @@ use Rattle.runners.proofs.Going.{listed-whats}
 use Rattle.answers.specs.Answers.{startOf}
 use Rattle.interpreter.specs.Answers.{Result, refused, resultOf, mainAt, interpretation}
 use Rattle.demands.specs.Steps.{Linked}
-use Rattle.demands.specs.Arcs.{ArcsOwed, ArcsOwedIn, ArcPromise, ArcPromiseInBuffer, OpensArc, arcIn, Beside, AllBeside, ArcWritten, Written, ArcsWritten, ArcsWrittenInBuffer}
+use Rattle.demands.specs.Arcs.{ArcsOwed, ArcsOwedIn, ArcPromise, ArcPromiseInBuffer, OpensArc, arcIn, Beside, AllBeside, Written, ArcsWritten, ArcsWrittenInBuffer}
 use Rattle.demands.proofs.Buffers.{every-read}
 use Rattle.demands.proofs.Demands.{every-run, each-from}
 use Rattle.demands.proofs.Holding.{all-owed}

@@ -1,6 +1,6 @@
 -- The kinds of the records of a deed: what holds of every rapid, feed, thread and dwell holds of every record of a cycle, and of a straight move and a dwell. An arc's records are told by the deed itself.
 -- Assumes nothing.
-use mathlib.Core.Path.{_≡_, refl}
+use mathlib.Core.Path.{_≡_}
 use mathlib.Core.Bool.{Bool, true, false, cond, _||_}
 use mathlib.Core.List.{List, [], _∷_}
 use Prim.Native.Nat.{ℕ}

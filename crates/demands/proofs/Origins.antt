@@ -3,9 +3,9 @@
 use mathlib.Core.Path.{_≡_, refl, sym, ap, _∙_, subst}
 use mathlib.Core.Bool.{Bool, true, false, cond, _||_}
 use mathlib.Core.List.{List, [], _∷_, _++_}
-use Prim.Native.Nat.{ℕ, zero, suc, _<_, _^_}
+use Prim.Native.Nat.{ℕ, zero, suc, _<_}
 use native.Mathlib.Omega.{arith}
-use lib.Dec.{T, ltb, eqb}
+use lib.Dec.{ltb, eqb}
 use lib.ListN.{length}
 use borrow.Author.Tests.{eqb-true}
 use Rattle.moves.specs.Form.{FittingOrigin}
@@ -34,7 +34,7 @@ use Rattle.ahead.specs.declared.Onward.{Onward}
 use Rattle.ahead.specs.declared.Onward.the-variants.{On, Call, Jump, Return, End, Stop}
 use Rattle.taking.specs.declared.step.StepDone.{StepDone}
 use Rattle.taking.specs.declared.step.Run.{Run}
-use Rattle.taking.specs.Steps.{Task, Step, blockOn, onwardBy, onwardOf, alarmBy, alarmAt, runAfter, doneAt, recordsAt, originAt, takenBy, takenFrom}
+use Rattle.taking.specs.Steps.{Task, Step, blockOn, onwardBy, onwardOf, alarmAt, runAfter, doneAt, originAt, takenBy, takenFrom}
 use Rattle.runners.specs.Runs.{Ran, pre, goBack, andThen, goOn, onward, blocks, enough, repeated, called, entry, programRun}
 use Rattle.runners.specs.declared.run.Ending.{Ending}
 use Rattle.runners.specs.declared.run.Ending.the-variants.{Returned, Ended, Stopped}

@@ -3,7 +3,7 @@
 use mathlib.Core.Path.{_≡_, refl, sym, ap, _∙_, subst}
 use mathlib.Core.Bool.{Bool, true, false, cond, _||_}
 use mathlib.Core.List.{List, [], _∷_, _++_}
-use Prim.Native.Nat.{ℕ, suc, _+_, _≤_, _<_}
+use Prim.Native.Nat.{ℕ, _+_, _≤_}
 use native.Mathlib.Omega.{arith}
 use lib.Dec.{leb, ltb, eqb}
 use lib.IntN.{ℤ}
@@ -22,7 +22,7 @@ use Rattle.block.specs.declared.words.Head.the-variants.{Blank, ProgramLine, Bl
 use Rattle.rules.specs.Rules.{judged}
 use Rattle.rules.specs.declared.judge.Judged.{Judged}
 use Rattle.finding.proofs.Walking.{kindOf, linesOf}
-use Rattle.reading.specs.Reading.{History, nothingRead, lineAlarm, noted, endsWith}
+use Rattle.reading.specs.Reading.{History, nothingRead, noted, endsWith}
 use Rattle.reading.specs.Filling.{Filled, nothingFilled, filed, roomAlarm, alarmWith, Readings, readLinesWith, readWith, acceptedOf}
 use Rattle.reading.specs.declared.read.Read.the-variants as read
 use Rattle.reading.proofs.Tabled.{none-room, row-accepted, all-accepted}

@@ -38,7 +38,7 @@ use Rattle.reading.specs.Filling.{Filled, nothingFilled, filed, roomAlarm, alar
 use Rattle.reading.specs.declared.read.Read.{Read}
 use Rattle.reading.specs.declared.read.Read.the-variants as read
 use Rattle.answers.specs.declared.Answer.the-variants.{Alarm}
-use Rattle.interpreter.specs.Answers.{Result, refused, readThen, longestTape, interpretationBy, interpretation, answerOf, rowOf, laidBy}
+use Rattle.interpreter.specs.Answers.{Result, refused, readThen, longestTape, interpretationBy, interpretation, rowOf, laidBy}
 use Rattle.demands.specs.Demands.{Named}
 use Rattle.demands.specs.Points.{OffNo21, WordsPointed, LinesPointed, Pointed, PointsSame}
 use Rattle.demands.proofs.Holding.{all-owed}

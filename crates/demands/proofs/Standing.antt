@@ -2,8 +2,7 @@
 -- Assumes nothing.
 use mathlib.Core.Path.{_≡_, refl, ap, _∙_}
 use mathlib.Core.Bool.{Bool, true, false, cond}
-use mathlib.Core.List.{List, [], _∷_, _++_}
-use Prim.Native.Nat.{_+_}
+use mathlib.Core.List.{List, _++_}
 use lib.IntN.{ℤ}
 use Rattle.moves.specs.declared.record.Record.{Record}
 use Rattle.block.specs.Slots.{has, sSlot, tSlot, spindleSlot, flowSlot, coolantSlot}

@@ -2,7 +2,7 @@
 -- subprogram's block. .. Demand 2 covers the new fields." The numbers are read off the bytes of the buffer, and off the lines of the tape at the step's place: nothing here is taken from how a run keeps them.
 use mathlib.Core.Path.{_≡_}
 use mathlib.Core.Bool.{Bool, true, false}
-use mathlib.Core.List.{List, [], _∷_}
+use mathlib.Core.List.{List}
 use Prim.Native.Nat.{ℕ}
 use lib.IntN.{ℤ}
 use lib.ListN.{length}

@@ -1,6 +1,6 @@
 -- What is due, as words stand for it: the first word says what is in hand, the second is the tag of what is kept beside it, which follows.
 use mathlib.Core.Path.{_≡_}
-use mathlib.Core.Bool.{Bool, true, false, cond}
+use mathlib.Core.Bool.{Bool, false, cond}
 use mathlib.Core.List.{List}
 use Prim.Native.Nat.{ℕ}
 use lib.Dec.{eqb}

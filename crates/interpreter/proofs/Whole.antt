@@ -32,9 +32,8 @@ use Rattle.steps.specs.Meets.{Ready, Fit}
 use Rattle.taking.specs.declared.step.Run.{Run}
 use Rattle.answers.specs.declared.Answer.{Answer}
 use Rattle.answers.specs.declared.Answer.the-variants.{Alarm}
-use Rattle.runners.specs.declared.run.Ending.{Ending}
 use Rattle.runners.specs.declared.run.Outcome.{Outcome}
-use Rattle.runners.specs.Runs.{blocksInAll, listedOf, programRun}
+use Rattle.runners.specs.Runs.{listedOf, programRun}
 use Rattle.runners.specs.Meets.{Begins, RanMeets}
 use Rattle.settings.specs.Points.{withPoints}
 use Rattle.settings.specs.Wrong.{settingsWrong}

@@ -7,7 +7,7 @@ use Prim.Native.Nat.{ℕ, zero, suc, _+_, _-_, _*_, _≤_, _<_}
 use native.Mathlib.Omega.{arith}
 use borrow.Author.Tests.{eqb-true, lt-ltb, leb-true}
 use lib.Dec.{T, eqb, leb, ltb}
-use lib.IntN.{ℤ, pos, natAbs}
+use lib.IntN.{ℤ, pos}
 use lib.ListN.{length, getD, take, drop, length-drop}
 use lib.Seq.{getD-drop, take-all, take-length, drop-drop}
 use Rattle.letters.specs.Letters.{space, opening, equals, digitZero, digitNine, letterD, letterG, letterL, letterP}
@@ -16,7 +16,7 @@ use Rattle.numbers.specs.declared.NumberForm.{NumberForm}
 use Rattle.numbers.specs.declared.NumberForm.the-variants.{TwoDigits, FiveDigits}
 use Rattle.numbers.specs.declared.Number.{Number}
 use Rattle.numbers.specs.declared.Number.the-variants.{Value, Bad}
-use Rattle.numbers.specs.Numbers.{isDigit, digitsOf, allDigits, digitsIn, numberOf}
+use Rattle.numbers.specs.Numbers.{isDigit, digitsOf, digitsIn, numberOf}
 use Rattle.tape.specs.Lines.{seek, seekFrom, gapOf}
 use Rattle.tape.specs.declared.line.Gap.{Gap}
 use Rattle.tape.specs.declared.line.Gap.the-variants as gap
@@ -25,10 +25,9 @@ use Rattle.addresses.specs.declared.Address.{Address}
 use Rattle.addresses.specs.declared.Address.the-variants.{Known}
 use Rattle.addresses.specs.declared.NextWord.the-variants.{Word, End}
 use Rattle.addresses.specs.Words.{capital, endsNumber, formOf, wordBy, numberWord, behindIndex, indexedWord, addressed, wordAt, behindGap, nextWord, wordsFrom}
-use Rattle.block.specs.declared.words.Rest.{Rest}
 use Rattle.block.specs.Words.{noWords, isProgramAddress, putWord, gather}
 use Rattle.block.proofs.Lines.{rest-word, rest-none}
-use Rattle.addresses.proofs.Ranges.{each, within, T-false}
+use Rattle.addresses.proofs.Ranges.{within, T-false}
 use Rattle.jumping.specs.declared.Jumping.{Jumping}
 use Rattle.jumping.specs.declared.Jumping.the-variants.{To, Other}
 use Rattle.jumping.specs.Jumping.{isFront, toBy, jumpIn, gWord, lWord, jumpWords}

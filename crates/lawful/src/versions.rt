@@ -1,7 +1,6 @@
 // The two versions of a list that are read. (02, request 7: "the reader takes both, version 1 to 4,000 records and without a block".) Version 2 is what the writer writes: its sizes stand in `moves`.
 ghost use mathlib.Core.Path.{_≡_};
-ghost use Prim.Native.Nat.{_-_, _/_, _≤_, _<_};
-ghost use Rattle.moves.specs.Form.{headerSize};
+ghost use Prim.Native.Nat.{_-_, _<_};
 ghost use Rattle.lawful.specs.Versions.{sizeIn, limitIn, startIn};
 
 pub enum Version {

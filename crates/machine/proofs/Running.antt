@@ -15,7 +15,6 @@ use Rattle.whole.proofs.Integers.{whole, lt-false}
 use Rattle.whole.proofs.Laying.{laid-nil}
 use Rattle.whole.proofs.Positions.{in-range, in-table}
 use Rattle.moves.specs.Form.{recordStart, rowFrom}
-use Rattle.moves.specs.declared.record.Record.{Record}
 use Rattle.moves.specs.declared.record.Origin.{Origin}
 use Rattle.moves.proofs.Rows.{from-none}
 use Rattle.block.specs.declared.words.Block.{Block}

@@ -1,7 +1,7 @@
 -- A block with no other words than G25 or G27 and L is done and changes nothing: it moves nothing, writes nothing and gives no alarm of its own. So is a block without words.
 -- Assumes nothing.
-use mathlib.Core.Path.{_≡_, refl, sym, ap, _∙_, subst}
-use mathlib.Core.Bool.{Bool, true, false, cond, _&&_, _||_}
+use mathlib.Core.Path.{_≡_, refl, ap, _∙_, subst}
+use mathlib.Core.Bool.{Bool, true, false, _||_}
 use mathlib.Core.List.{List, []}
 use Prim.Native.Nat.{ℕ, _+_, _-_}
 use native.Mathlib.Nat.{add-zero}
@@ -29,7 +29,6 @@ use Rattle.deeds.specs.declared.deed.Deed.{Deed}
 use Rattle.deeds.specs.declared.deed.Deed.the-variants as deed
 use Rattle.scaling.specs.declared.Sending.{Sending}
 use Rattle.asking.specs.Judge.{asksOf, alarmOf, doing}
-use Rattle.asking.specs.declared.Asked.{Asked}
 use Rattle.writing.specs.Writes.{oneIf, speedAndTool, spindleAndCoolant, done, stops, stopping, writes, otherCount}
 use Rattle.verdicts.specs.Verdicts.{deedIn, sendingOf, asksIn, askedIn, alarmIn}
 use Rattle.machine.specs.declared.BlockOutcome.the-variants.{Done}

@@ -1,9 +1,9 @@
 -- What is left to hand out, along the asks.
 -- Assumes nothing.
 use mathlib.Core.Path.{_≡_, refl, sym, ap, subst, _∙_}
-use mathlib.Core.Bool.{Bool, true, false, not}
+use mathlib.Core.Bool.{Bool, true, false}
 use mathlib.Core.List.{List, [], _∷_, _++_}
-use Prim.Native.Nat.{ℕ, _+_, _-_, _≤_, _<_}
+use Prim.Native.Nat.{ℕ, _-_, _≤_, _<_}
 use native.Mathlib.Omega.{arith}
 use lib.IntN.{ℤ}
 use lib.ListN.{length, take, drop, length-drop}
@@ -13,7 +13,6 @@ use Rattle.moves.specs.Form.{recordSize, recordBytes}
 use Rattle.moves.specs.declared.record.Listed.{Listed}
 use Rattle.settings.specs.Row.{unfit, settingsOf}
 use Rattle.settings.specs.Wrong.{settingsWrong}
-use Rattle.state.specs.Known.{Sound}
 use Rattle.answers.specs.declared.Answer.{Answer}
 use Rattle.ahead.specs.Ahead.{FoundAt}
 use Rattle.ahead.specs.declared.ProgramAt.{ProgramAt}
@@ -21,11 +20,11 @@ use Rattle.ahead.proofs.Places.{FoundIn, program-on}
 use Rattle.taking.specs.Steps.{Task}
 use Rattle.taking.specs.Hands.{inHand}
 use Rattle.taking.specs.declared.step.Hand.{Hand}
-use Rattle.taking.specs.declared.step.Hand.the-variants.{Nothing, Block}
+use Rattle.taking.specs.declared.step.Hand.the-variants.{Nothing}
 use Rattle.resuming.specs.Handed.{Made, Left, Takes}
 use Rattle.resuming.specs.declared.Handed.the-variants as handed
-use Rattle.resuming.specs.Engines.{Engine, ahead, joined, remaining}
-use Rattle.paused.specs.Kept.{Fitting, Kept}
+use Rattle.resuming.specs.Engines.{ahead, joined, remaining}
+use Rattle.paused.specs.Kept.{Fitting}
 use Rattle.paused.specs.declared.Phase.{Phase}
 use Rattle.paused.specs.declared.Phase.the-variants.{Running, Over}
 use Rattle.paused.specs.declared.Going.{Going}
@@ -38,21 +37,11 @@ use Rattle.stepping.specs.declared.Turned.{Turned}
 use Rattle.inhand.specs.State.{stateWords, handIn, runIn, Given}
 use Rattle.onemove.specs.declared.Told.{Told}
 use Rattle.onemove.specs.declared.Told.the-variants as told
-use Rattle.handwords.specs.Due.{isEmpty}
 use Rattle.runwords.specs.Taken.{goingOf, phaseOf as wordPhase}
 use Rattle.inhand.specs.State.{isEmptyIn, goingIn, GiveMeets}
 use Rattle.telling.proofs.Tells.{never}
 use Rattle.settings.specs.declared.control.Settings.{Settings}
-use Rattle.onemove.specs.OneMove.{running, Lent, Stood, Holds, Hands, Lawful, Touches, AskMeets, Refuses, NextMeets, CanGoOn, FirstMeets, Gives, MoveGiven}
-
--- ---- a test that was turned round
-pub was-false : (b : Bool) → not b ≡ true → b ≡ false
-was-false true e = sym e
-was-false false e = refl
-
-pub was-true : (b : Bool) → not b ≡ false → b ≡ true
-was-true true e = refl
-was-true false e = sym e
+use Rattle.onemove.specs.OneMove.{running, Lent, Stood, Holds, Lawful, Touches, AskMeets, NextMeets, CanGoOn, FirstMeets, Gives}
 
 -- ---- what is left, with records in hand
 ahead-same : (t : Task) (g : Going) (k l : List Made) (p : Phase) → ahead t (phaseOf p) (standing k g) ≡ ahead t (phaseOf p) (standing l g)

@@ -1,16 +1,14 @@
 -- What is put into the words of a block that is in hand: the same records are left, and it can be asked for them.
 -- Assumes nothing.
 use mathlib.Core.Path.{_≡_, refl, sym, ap, subst, _∙_}
-use mathlib.Core.Bool.{Bool, true, false}
-use mathlib.Core.List.{List, [], _∷_}
+use mathlib.Core.List.{List, _∷_}
 use Prim.Native.Nat.{ℕ}
 use lib.ListN.{length}
 use Rattle.whole.specs.Bytes.{laid}
 use Rattle.moves.specs.Form.{stamped, recordBytes}
-use Rattle.moves.specs.declared.record.Record.{Record}
 use Rattle.moves.specs.declared.record.Origin.{Origin}
 use Rattle.moves.specs.declared.record.Listed.{Listed}
-use Rattle.stages.specs.Cursor.{restOf, over, Sound}
+use Rattle.stages.specs.Cursor.{over, Sound}
 use Rattle.stages.specs.declared.cursor.Stage.the-variants.{Speed, Tool, Spindle, Coolant, Deed, Centre, Stop, Over}
 use Rattle.stages.specs.declared.cursor.Due.{Due}
 use Rattle.stages.specs.declared.cursor.Due.the-variants.{Turning, Threading, Grooving, Drilling, Single}
@@ -20,10 +18,9 @@ use Rattle.resumable.specs.Kept.{kept, withDeed, Fits}
 use Rattle.resumable.proofs.Kept.{same-rest, kept-fits, own, whole-deed}
 use Rattle.taking.specs.declared.step.Hand.{Hand}
 use Rattle.taking.specs.declared.step.Hand.the-variants.{Nothing, Block}
-use Rattle.taking.specs.Hands.{inHand, HandSound}
+use Rattle.taking.specs.Hands.{inHand}
 use Rattle.holding.specs.Held.{Held}
 use Rattle.inhand.specs.State.{stateWords, handIn, runIn, handKept, PutMeets}
-use Rattle.runwords.specs.Taken.{goingOf}
 use Rattle.answers.specs.declared.Answer.{Answer}
 use Rattle.paused.specs.declared.Phase.{Phase}
 use Rattle.paused.specs.declared.Phase.the-variants as phase

@@ -1,9 +1,9 @@
 -- A run that is started in words.
 -- Assumes nothing.
 use mathlib.Core.Path.{_≡_, refl, sym, ap, subst, _∙_}
-use mathlib.Core.Bool.{Bool, true, false, cond}
-use mathlib.Core.List.{List, []}
-use Prim.Native.Nat.{ℕ, _≤_}
+use mathlib.Core.Bool.{true, false}
+use mathlib.Core.List.{List}
+use Prim.Native.Nat.{ℕ}
 use native.Mathlib.Omega.{arith}
 use lib.IntN.{ℤ}
 use lib.ListN.{length, take}
@@ -13,9 +13,8 @@ use Rattle.settings.specs.declared.control.Settings.{Settings}
 use Rattle.interpreter.specs.Answers.{refused, placesOf}
 use Rattle.taking.specs.declared.step.Hand.{Hand}
 use Rattle.taking.specs.declared.step.Hand.the-variants.{Nothing}
-use Rattle.taking.specs.Hands.{inHand}
-use Rattle.resuming.specs.Handed.{Made, Left, leftOf, roomy}
-use Rattle.paused.specs.Kept.{Fitting, Kept}
+use Rattle.resuming.specs.Handed.{Made, leftOf, roomy}
+use Rattle.paused.specs.Kept.{Fitting}
 use Rattle.paused.specs.declared.Phase.{Phase}
 use Rattle.paused.specs.declared.Phase.the-variants.{Running, Over}
 use Rattle.paused.specs.declared.Going.{Going}
@@ -24,9 +23,8 @@ use Rattle.starting.specs.Starts.{Ready, StartMeets}
 use Rattle.starting.specs.Begun.{refusedWith}
 use Rattle.starting.proofs.Meeting.{refused-left, refused-kept, refused-sound}
 use Rattle.holding.proofs.Handing.{none-in-hand}
-use Rattle.holding.specs.Held.{Held}
 use Rattle.inhand.specs.State.{stateWords, handIn, runIn, PutMeets}
-use Rattle.onemove.specs.OneMove.{resultAt, wantedAt, placesStarted, running, Lent, Stood, Holds, BegunMeets, StartsIn}
+use Rattle.onemove.specs.OneMove.{resultAt, wantedAt, placesStarted, running, Lent, Stood, BegunMeets, StartsIn}
 
 module _ (tape : List ℕ) (table numbers : List ℤ) (places : List ℕ) where
   -- ---- the run

@@ -1,18 +1,14 @@
 -- ASKED IN TURN: the k-th ask behind a start hands out what is wanted k-th.
 -- Assumes nothing.
-use mathlib.Core.Path.{_≡_, refl, sym, ap, subst, _∙_}
-use mathlib.Core.Bool.{true}
+use mathlib.Core.Path.{sym, subst}
 use mathlib.Core.List.{List}
-use Prim.Native.Nat.{ℕ, zero, suc, _≤_}
+use Prim.Native.Nat.{ℕ, zero, suc}
 use lib.IntN.{ℤ}
-use lib.ListN.{length}
-use Rattle.moves.specs.Form.{recordSize}
-use Rattle.resuming.specs.declared.Handed.{Handed}
-use Rattle.resuming.specs.Handed.{Left, Takes}
+use Rattle.resuming.specs.Handed.{Left}
 use Rattle.resuming.specs.Handed as left
 use Rattle.resuming.proofs.Answers.{first, others}
 use Rattle.onemove.specs.declared.Told.{Told}
-use Rattle.onemove.specs.OneMove.{Holds, Hands, Lawful, NextMeets, InTurn}
+use Rattle.onemove.specs.OneMove.{Holds, Hands, Lawful, InTurn}
 
 module _ (tape : List ℕ) (table numbers : List ℤ) (places : List ℕ) where
   behind : (w b c : ℕ → List ℕ) (r : ℕ → Told) → InTurn tape table numbers places w b c r → (x : Left) → Holds tape table numbers places (w 0) x → Lawful tape table numbers places x (b 0) (r 0) (w 1) (c 0)

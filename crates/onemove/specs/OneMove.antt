@@ -12,11 +12,8 @@ use Rattle.moves.specs.Form.{recordSize, recordBytes}
 use Rattle.moves.specs.declared.record.Listed.{Listed}
 use Rattle.settings.specs.Row.{unfit, settingsOf}
 use Rattle.settings.specs.Points.{withPoints}
-use Rattle.settings.specs.Known.{Right}
 use Rattle.settings.specs.declared.control.Settings.{Settings}
 use Rattle.state.specs.Known.{Sound}
-use Rattle.answers.specs.declared.Answer.{Answer}
-use Rattle.answers.specs.declared.Answer.the-variants.{Alarm}
 use Rattle.interpreter.specs.Answers.{Result, refused, interpretation, placesOf}
 use Rattle.resuming.specs.declared.Handed.{Handed}
 use Rattle.resuming.specs.declared.Handed.the-variants as handed

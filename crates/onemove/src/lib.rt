@@ -13,7 +13,7 @@ ghost use mathlib.Core.Path.{_≡_};
 ghost use mathlib.Core.Bool.{true, false};
 ghost use Prim.Native.Nat.{_≤_};
 ghost use lib.ListN.{length};
-ghost use Rattle.settings.specs.Row.{unfit, settingsOf};
+ghost use Rattle.settings.specs.Row.{unfit};
 ghost use Rattle.moves.specs.Form.{recordSize};
 ghost use Rattle.taking.specs.declared.step.Hand.the-variants.{Nothing, Block};
 ghost use Rattle.paused.specs.declared.Phase.the-variants.{Running};

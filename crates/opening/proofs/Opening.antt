@@ -1,13 +1,12 @@
 -- A block that is opened has its records.
 -- Assumes nothing.
-use mathlib.Core.Path.{_≡_, refl, sym, ap, subst, _∙_}
-use mathlib.Core.Bool.{Bool, true, false}
-use mathlib.Core.List.{List, [], _∷_, _++_, append-assoc}
-use lib.IntN.{ℤ}
+use mathlib.Core.Path.{_≡_, refl, sym, ap, _∙_}
+use mathlib.Core.Bool.{Bool}
+use mathlib.Core.List.{List, [], _++_, append-assoc}
 use Prim.Native.Nat.{ℕ}
 use Rattle.moves.specs.Kinds.{tool, miscellaneous, speed}
 use Rattle.moves.specs.declared.record.Record.{Record}
-use Rattle.block.specs.Slots.{has, sSlot, tSlot, spindleSlot, flowSlot, coolantSlot}
+use Rattle.block.specs.Slots.{has, sSlot, tSlot, spindleSlot, coolantSlot}
 use Rattle.block.specs.declared.words.Block.{Block}
 use Rattle.state.specs.declared.modal.State.{State}
 use Rattle.turning.specs.Cursor as turn
@@ -18,7 +17,7 @@ use Rattle.asking.specs.Judge.{doing}
 use Rattle.deeds.specs.declared.deed.Deed.{Deed}
 use Rattle.deeds.specs.declared.deed.Deed.the-variants as deed
 use Rattle.writing.specs.Writes.{oneIf, speedOf, toolOf, mOf, speedAndTool, spindleAndCoolant, done, stops, stopping, writes}
-use Rattle.stages.specs.Cursor.{singleOf, behindDeed, fromCentre, fromCoolant, fromSpindle, fromTool, fromSpeed, behindAt, restAt, restFrom, deedRow, restOf, stageBehind, DueSound, Planned, Sound, Follows}
+use Rattle.stages.specs.Cursor.{singleOf, behindDeed, fromCentre, fromCoolant, fromSpindle, fromTool, fromSpeed, behindAt, restAt, restFrom, deedRow, restOf, stageBehind, Planned, Sound}
 use Rattle.opening.specs.Opened.{ownIn, ownRow, Opens, OpensDeed, IsPlan}
 use Rattle.stages.specs.declared.cursor.Stage.{Stage}
 use Rattle.stages.specs.declared.cursor.Stage.the-variants as stage

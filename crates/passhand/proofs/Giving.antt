@@ -22,15 +22,6 @@ use Rattle.passhand.specs.declared.Gave.{Gave}
 use Rattle.passhand.specs.declared.Gave.the-variants.{Given, Unfit, Other}
 use Rattle.passhand.specs.Gives.{isCycle, goesOn, goesOnIn, Holds, Put, Gives}
 
--- ---- a test turned round
-pub was-false : (b : Bool) → not b ≡ true → b ≡ false
-was-false true e = sym e
-was-false false e = refl
-
-pub was-true : (b : Bool) → not b ≡ false → b ≡ true
-was-true true e = refl
-was-true false e = sym e
-
 -- ---- the words behind a record
 -- words laid over all the others
 over-all : (w x : List ℕ) → length w ≡ dueWords → length x ≡ dueWords → laid w 0 x ≡ x

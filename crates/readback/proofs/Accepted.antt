@@ -16,7 +16,6 @@ use Rattle.judging.specs.Judging.{markWrong, lengthWrong, recordsWrong, judgedA
 use Rattle.readback.specs.Lists.{foundAt, pickedFrom, readOf, heldBy, readAs, readJudged}
 use Rattle.lawful.specs.declared.versions.Version.{Version}
 use Rattle.lawful.specs.declared.versions.Version.the-variants.{One, Two}
-use Rattle.judging.specs.declared.Judged.{Judged}
 use Rattle.judging.specs.declared.Judged.the-variants.{Good, Refused}
 use Rattle.readback.specs.declared.read.ReadBack.{ReadBack}
 use Rattle.readback.specs.declared.read.ReadBack.the-variants as read

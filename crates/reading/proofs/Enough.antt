@@ -5,8 +5,8 @@ use mathlib.Core.Bool.{Bool, true, false, cond, _&&_, _||_}
 use mathlib.Core.List.{List, [], _∷_}
 use Prim.Native.Nat.{ℕ, zero, suc, _+_, _-_, _*_, _<_, _≤_}
 use native.Mathlib.Omega.{arith}
-use lib.Dec.{ltb, leb, eqb}
-use lib.ListN.{length, take, drop, getD, length-take, length-drop}
+use lib.Dec.{ltb, eqb}
+use lib.ListN.{length, take, drop, getD, length-take}
 use borrow.Author.Tests.{ltb-true, ltb-false, lt-leb, eqb-true, ne-eqb}
 use Rattle.letters.specs.Letters.{letterP, letterD, cr, equals, digitZero}
 use Rattle.numbers.specs.declared.Number.{Number}
@@ -26,7 +26,6 @@ use Rattle.tape.specs.declared.line.Gap.{Gap}
 use Rattle.tape.specs.declared.line.Gap.the-variants as gap
 use Rattle.tape.specs.Lines.{seekFrom, opensTape, isLineFeed, gapOf, lineAt, LineIn, Text, textAt, lines}
 use Rattle.tape.proofs.Lining.{line-in, lines-more, lines-end}
-use Rattle.alarms.specs.Numbers.{placesTooShort}
 use Rattle.alarms.specs.Numbers as alarms
 use Rattle.places.specs.Places.{lineKey, blockKey, entryOf}
 use Rattle.places.proofs.Rows.{inserted-length}
@@ -35,7 +34,6 @@ use Rattle.rules.specs.Rules.{judged}
 use Rattle.rules.specs.declared.judge.Judged.{Judged}
 use Rattle.block.specs.declared.words.Head.{Head}
 use Rattle.block.specs.declared.words.Head.the-variants.{Blank, ProgramLine, BlockLine, Other}
-use Rattle.reading.specs.declared.read.Read.{Read}
 use Rattle.reading.specs.declared.read.Read.the-variants.{Whole, Alarm}
 use Rattle.reading.specs.Reading.{longestTape, History, nothingRead, lineAlarm, noted, endsWith, readLines, readOf}
 use Rattle.reading.specs.Filling.{Filled, nothingFilled, filed, roomAlarm, alarmWith, Readings, readLinesWith, readWith, mostPlaces}

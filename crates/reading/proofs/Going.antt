@@ -25,7 +25,6 @@ use Rattle.block.specs.declared.words.Head.{Head}
 use Rattle.block.specs.declared.words.Head.the-variants.{Blank, ProgramLine, BlockLine, Other}
 use Rattle.reading.specs.declared.read.Read.{Read}
 use Rattle.reading.specs.declared.read.Read.the-variants.{Whole, Alarm}
-use Rattle.reading.specs.declared.read.TapeRead.{TapeRead}
 use Rattle.reading.specs.Reading.{History, nothingRead, headAlarm, lineAlarm, noted, endsWith}
 use Rattle.reading.specs.Filling.{Filled, nothingFilled, filed, roomAlarm, alarmWith, Readings, told, readLinesWith, placesBehind}
 use Rattle.reading.proofs.Noting.{Sound, sound-start, sound-program, sound-block}

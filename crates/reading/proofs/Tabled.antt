@@ -12,7 +12,7 @@ use borrow.Author.Tests.{ltb-true, ltb-false, eqb-true, eqb-false}
 use Rattle.alarms.specs.Numbers.{missingPoint}
 use Rattle.alarms.specs.Numbers as alarms
 use Rattle.settings.specs.Wrong.{highestProgram}
-use Rattle.places.specs.Places.{sixteenBits, lineKey, blockKey, Row}
+use Rattle.places.specs.Places.{sixteenBits, lineKey, blockKey}
 use Rattle.places.specs.Lines.{noProgram, programAfter, rowAfter, tabled, Fresh, Accepted}
 use Rattle.places.proofs.Walks.{not-held}
 use Rattle.whole.specs.Among.{among}

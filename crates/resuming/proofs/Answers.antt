@@ -1,7 +1,7 @@
 -- Asked in turn: whatever answers so that each answer takes off what it must, its k-th answer is that of the promise.
 -- Assumes nothing.
 use mathlib.Core.Path.{_≡_, sym, ap, _∙_}
-use mathlib.Core.List.{List, [], _∷_}
+use mathlib.Core.List.{List}
 use Prim.Native.Nat.{ℕ, zero, suc}
 use Rattle.answers.specs.declared.Answer.{Answer}
 use Rattle.resuming.specs.Handed.{Made, Left, handedOf, handed, Takes}

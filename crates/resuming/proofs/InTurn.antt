@@ -2,14 +2,14 @@
 -- Assumes nothing.
 use mathlib.Core.Path.{_≡_, refl, sym, ap, subst, _∙_}
 use mathlib.Core.Bool.{Bool, true, false, cond}
-use mathlib.Core.List.{List, [], _∷_, _++_}
-use Prim.Native.Nat.{ℕ, zero, suc, _+_, _-_, _≤_, _<_}
+use mathlib.Core.List.{List, [], _∷_}
+use Prim.Native.Nat.{ℕ, zero, suc, _≤_, _<_}
 use native.Mathlib.Omega.{arith}
 use lib.Dec.{ltb}
 use lib.IntN.{ℤ}
 use lib.ListN.{length, take}
-use Rattle.alarms.specs.Numbers.{badSettings, tapeTooLong, bufferTooShort, programMissing}
-use Rattle.tape.specs.Lines.{lineAt, lines}
+use Rattle.alarms.specs.Numbers.{badSettings, tapeTooLong, programMissing}
+use Rattle.tape.specs.Lines.{lines}
 use Rattle.finding.specs.Finding.{findProgram}
 use Rattle.reading.specs.Filling.{readWith}
 use Rattle.places.specs.declared.Found.{Found}
@@ -22,19 +22,18 @@ use Rattle.taking.specs.Steps.{Task, taskOf}
 use Rattle.taking.specs.declared.step.Run.{Run}
 use Rattle.runners.specs.Runs.{Ran, programRun, listedOf, blocksInAll, enough}
 use Rattle.answers.specs.declared.Answer.{Answer}
-use Rattle.answers.specs.declared.Answer.the-variants.{Complete, Alarm}
+use Rattle.answers.specs.declared.Answer.the-variants.{Alarm}
 use Rattle.answers.specs.Answers.{startOf}
-use Rattle.interpreter.specs.Answers.{Result, refused, resultOf, mainAt, mainBy, mainRun, readThen, longestTape, interpretationBy, interpretation, firstInterpretation}
+use Rattle.interpreter.specs.Answers.{Result, refused, resultOf, mainAt, mainBy, mainRun, readThen, longestTape, interpretationBy, interpretation}
 use Rattle.settings.specs.Points.{withPoints}
 use Rattle.settings.specs.Wrong.{settingsWrong}
-use Rattle.resuming.specs.declared.Handed.{Handed}
-use Rattle.resuming.specs.declared.Handed.the-variants.{Move, Over}
+use Rattle.resuming.specs.declared.Handed.the-variants.{Over}
 use Rattle.resuming.specs.Handed.{Made, Left, leftOf, handedOf, handed, roomy}
-use Rattle.resuming.specs.Engines.{Phase, Running, Done, Engine, running, turn, readyBy, ready, Asked, given, ask, answers, ahead, joined, remaining, Started, Refused, Begun, mainFound, readFor, start, engineAt, answersOf}
+use Rattle.resuming.specs.Engines.{Phase, Running, Done, Engine, turn, readyBy, ready, given, ask, answers, ahead, joined, remaining, Started, Refused, mainFound, readFor, start, engineAt, answersOf}
 use Rattle.resuming.specs.OneMove.{OneMove}
 use Rattle.interpreter.proofs.Staying.{all-stay}
 use Rattle.resuming.proofs.Remaining.{begins}
-use Rattle.resuming.proofs.Turns.{turn-same, turn-nearer, weight, weightOf, Nearer}
+use Rattle.resuming.proofs.Turns.{turn-same, turn-nearer, weight, weightOf}
 
 -- ---- made ready: the same is left, and a record is at hand or the run is over
 abbrev Stopped : List Made → Phase → Type 0

@@ -1,18 +1,17 @@
 -- A step that is no alarm leaves fewer blocks to begin, and a refused one has no records.
 -- Assumes nothing.
-use mathlib.Core.Path.{_≡_, refl, sym, ap, subst, _∙_}
-use mathlib.Core.Bool.{Bool, true, false, cond}
-use mathlib.Core.List.{List, []}
-use Prim.Native.Nat.{ℕ, zero, suc, _+_, _-_, _≤_, _<_}
+use mathlib.Core.Path.{_≡_, refl, sym, ap, _∙_}
+use mathlib.Core.Bool.{Bool, cond}
+use Prim.Native.Nat.{ℕ, zero, suc, _-_, _≤_, _<_}
 use native.Mathlib.Omega.{arith}
 use lib.Dec.{eqb}
 use borrow.Author.Tests.{eq-eqb, ne-eqb}
-use Rattle.tape.specs.Lines.{textAt, lines}
+use Rattle.tape.specs.Lines.{lines}
 use Rattle.finding.specs.Finding.{firstBlock}
 use Rattle.places.specs.declared.Found.{Found}
 use Rattle.places.specs.declared.Found.the-variants.{At, Nowhere}
 use Rattle.verdicts.specs.Verdicts.{alarmIn}
-use Rattle.taking.specs.Steps.{Task, Step, Taken, blockOn, onwardOf, alarmBy, alarmAt, runAfter, doneAt, recordsAt, takenBy, takenFrom}
+use Rattle.taking.specs.Steps.{Task, blockOn, onwardOf, alarmBy, alarmAt, runAfter, doneAt, takenBy, takenFrom}
 use Rattle.ahead.specs.Ahead.{onto}
 use Rattle.ahead.specs.declared.Frame.{Frame}
 use Rattle.ahead.specs.declared.Onward.{Onward}

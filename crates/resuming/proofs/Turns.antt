@@ -1,26 +1,21 @@
 -- A turn of the engine keeps what is left to hand out.
 -- Assumes nothing.
-use mathlib.Core.Path.{_≡_, refl, sym, ap, subst, _∙_}
-use mathlib.Core.List.{List, [], _∷_, _++_}
-use Prim.Native.Nat.{ℕ, zero, suc, _+_, _-_, _≤_, _<_}
+use mathlib.Core.Path.{_≡_, refl, sym, ap, _∙_}
+use mathlib.Core.List.{List, [], _∷_}
+use Prim.Native.Nat.{ℕ, zero, suc, _≤_, _<_}
 use native.Mathlib.Omega.{arith}
-use Rattle.alarms.specs.Numbers.{tooDeep, wrongEnd}
-use Rattle.tape.specs.Lines.{lineAt}
-use Rattle.taking.specs.Steps.{Task, Step, listedBy, Taken, takenFrom}
+use Rattle.taking.specs.Steps.{Task, Step, listedBy, takenFrom}
 use Rattle.ahead.specs.declared.ProgramAt.{ProgramAt}
 use Rattle.ahead.specs.declared.Onward.{Onward}
 use Rattle.ahead.specs.declared.Onward.the-variants.{On, Call, Jump, Return, End, Stop}
 use Rattle.taking.specs.declared.step.Run.{Run}
-use Rattle.runners.specs.declared.run.Ending.the-variants.{Returned, Ended, Stopped}
-use Rattle.runners.specs.Runs.{Ran, ran, pre, listedOf, blocksInAll, enough}
-use Rattle.answers.specs.declared.Answer.{Answer}
-use Rattle.answers.specs.declared.Answer.the-variants.{Complete, Alarm}
+use Rattle.runners.specs.Runs.{Ran, pre, listedOf, blocksInAll}
 use Rattle.answers.specs.Answers.{answerBy}
 use Rattle.interpreter.specs.Answers.{resultOf}
 use Rattle.resuming.specs.declared.Waiting.{Waiting}
-use Rattle.resuming.specs.Remains.{waiting, frameAt, back, remain, deeper, gone}
+use Rattle.resuming.specs.Remains.{waiting, frameAt, back, deeper, gone}
 use Rattle.resuming.specs.Handed.{Made, Left, leftOf}
-use Rattle.resuming.specs.Engines.{Phase, Running, Done, Engine, running, ended, timesLeft, comeBack, callFrom, turnBy, turn, ahead, joined, remaining}
+use Rattle.resuming.specs.Engines.{Phase, Running, Done, Engine, timesLeft, comeBack, callFrom, turnBy, turn, ahead, joined, remaining}
 use Rattle.resuming.proofs.Lowering.{Lower, lower}
 use Rattle.resuming.proofs.Remaining.{stepped, home, again}
 

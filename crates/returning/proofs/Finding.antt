@@ -3,8 +3,8 @@
 -- Assumes nothing.
 use mathlib.Core.Path.{_≡_, refl, sym, ap, subst, _∙_}
 use mathlib.Core.Bool.{Bool, true, false}
-use mathlib.Core.List.{List, [], _∷_}
-use Prim.Native.Nat.{ℕ, zero, suc, _+_, _-_, _≤_, _<_}
+use mathlib.Core.List.{List, _∷_}
+use Prim.Native.Nat.{ℕ, zero, suc, _+_, _-_, _≤_}
 use native.Mathlib.Omega.{arith}
 use lib.Dec.{eqb}
 use lib.ListN.{length, getD, set, take, length-set}
@@ -21,10 +21,10 @@ use Rattle.resuming.specs.declared.Waiting.{Waiting}
 use Rattle.resuming.specs.Remains.{waiting}
 use Rattle.paused.specs.Kept.{nobody}
 use Rattle.paused.specs.declared.Phase.{Phase}
-use Rattle.paused.specs.declared.Phase.the-variants.{Running, Over}
+use Rattle.paused.specs.declared.Phase.the-variants.{Running}
 use Rattle.paused.specs.declared.Going.{Going}
 use Rattle.returning.specs.Standing.{stackOf, depthOf, AllFound, Placed, PlacedOn}
-use Rattle.returning.specs.Moving.{withinOf, movedTo, overWith, stoppedWith, lastOf, topOf, poppedTo, repeatedTo, cameBack, pushedTo, calledTo, programWithin, goneOn}
+use Rattle.returning.specs.Moving.{movedTo, lastOf, topOf, poppedTo, repeatedTo, cameBack, pushedTo, calledTo, programWithin, goneOn}
 use Rattle.returning.proofs.Moving.{came-main, came-popped, came-repeated, called-deep, called-in}
 use Rattle.returning.proofs.Going.{within-is, stack-push}
 

@@ -21,14 +21,13 @@ use Rattle.answers.specs.declared.Answer.{Answer}
 use Rattle.answers.specs.declared.Answer.the-variants.{Complete, Alarm}
 use Rattle.resuming.specs.declared.Waiting.{Waiting}
 use Rattle.resuming.specs.Remains.{waiting}
-use Rattle.resuming.specs.Handed.{Made, Left}
-use Rattle.resuming.specs.Engines.{Engine, running, ended, timesLeft, comeBack, callFrom, turnBy, ahead, joined, remaining}
+use Rattle.resuming.specs.Handed.{Made}
+use Rattle.resuming.specs.Engines.{running, ended, timesLeft, comeBack, callFrom, turnBy, ahead, joined, remaining}
 use Rattle.paused.specs.Kept.{nobody}
-use Rattle.paused.specs.declared.Phase.{Phase}
 use Rattle.paused.specs.declared.Phase.the-variants.{Running}
 use Rattle.paused.specs.declared.Going.{Going}
-use Rattle.returning.specs.Standing.{stackOf, depthOf, phaseOf, standing, leftFor}
-use Rattle.returning.specs.Moving.{withinOf, movedTo, overWith, stoppedWith, lastOf, topOf, poppedTo, repeatedTo, cameBack, pushedTo, calledTo, programWithin, goneOn}
+use Rattle.returning.specs.Standing.{stackOf, depthOf, phaseOf, leftFor}
+use Rattle.returning.specs.Moving.{withinOf, movedTo, overWith, stoppedWith, lastOf, topOf, poppedTo, repeatedTo, cameBack, pushedTo, calledTo, goneOn}
 use Rattle.returning.proofs.Moving.{came-main, came-popped, came-repeated, called-deep, called-in}
 
 -- ---- places

@@ -2,38 +2,29 @@
 -- Assumes nothing.
 use mathlib.Core.Path.{_≡_, refl, sym, ap, subst, _∙_}
 use mathlib.Core.Bool.{Bool, true, false, cond}
-use mathlib.Core.List.{List, [], _∷_}
-use Prim.Native.Nat.{ℕ, zero, suc, _+_, _-_, _%_, _≤_, _<_}
+use mathlib.Core.List.{List}
+use Prim.Native.Nat.{ℕ, _-_, _≤_, _<_}
 use native.Mathlib.Omega.{arith}
 use lib.Dec.{ltb, eqb}
-use lib.ListN.{length, getD, set, take, length-set}
+use lib.ListN.{length, getD, set, length-set}
 use lib.Seq.{getD-set-same, getD-set-other}
 use borrow.Author.Tests.{ltb-false, eqb-true, eqb-false}
-use Rattle.places.specs.Places.{sixteenBits}
-use Rattle.tape.specs.Lines.{lineAt}
 use Rattle.tape.proofs.Lining.{line-in}
 use Rattle.moves.specs.Form.{recordLimit}
-use Rattle.finding.specs.Finds.{Finds}
-use Rattle.ahead.specs.Ahead.{mostCalls, FoundAt}
+use Rattle.ahead.specs.Ahead.{mostCalls}
 use Rattle.ahead.specs.declared.ProgramAt.{ProgramAt}
 use Rattle.ahead.specs.declared.Frame.{Frame}
 use Rattle.ahead.specs.declared.Onward.{Onward}
 use Rattle.ahead.specs.declared.Onward.the-variants.{On, Call, Jump, Return, End, Stop}
-use Rattle.ahead.proofs.Places.{found-within}
-use Rattle.taking.specs.Hands.{Leads}
 use Rattle.taking.specs.declared.step.Run.{Run}
 use Rattle.runners.specs.Runs.{blocksInAll}
 use Rattle.answers.specs.declared.Answer.{Answer}
 use Rattle.resuming.specs.declared.Waiting.{Waiting}
 use Rattle.resuming.specs.Remains.{waiting}
 use Rattle.paused.specs.Kept.{nobody, Waits, Fitting, Kept}
-use Rattle.paused.specs.declared.Phase.{Phase}
-use Rattle.paused.specs.declared.Phase.the-variants.{Running, Over}
 use Rattle.paused.specs.declared.Going.{Going}
-use Rattle.returning.specs.Standing.{stackOf, depthOf, AllFound, Placed, PlacedOn}
 use Rattle.returning.specs.Moving.{withinOf, movedTo, overWith, stoppedWith, lastOf, topOf, poppedTo, repeatedTo, cameBack, pushedTo, calledTo, programWithin, goneOn}
 use Rattle.returning.proofs.Moving.{came-main, came-popped, came-repeated, called-deep, called-in}
-use Rattle.returning.proofs.Going.{within-is, stack-push}
 
 pub within-fits : (size p : ℕ) → withinOf size p ≤ size
 unfolding withinOf

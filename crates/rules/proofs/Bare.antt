@@ -1,7 +1,7 @@
 -- Laws of a judged line: by what it starts with, and with no words behind its first.
 -- Assumes nothing.
 use mathlib.Core.Path.{_≡_, refl, sym, ap, _∙_}
-use mathlib.Core.Bool.{Bool, true, false, cond}
+use mathlib.Core.Bool.{Bool, true, false}
 use mathlib.Core.List.{List}
 use Prim.Native.Nat.{ℕ, _≤_, _<_}
 use lib.ListN.{length}
@@ -15,7 +15,7 @@ use Rattle.block.specs.declared.words.LineStart.{LineStart}
 use Rattle.block.specs.declared.words.ReadLine.{ReadLine}
 use Rattle.block.specs.declared.words.Rest.{Rest}
 use Rattle.block.specs.Slots.{has, anyOf, gIn}
-use Rattle.block.specs.Words.{longestLine, noWords, gather, reading, lineOf, startOf}
+use Rattle.block.specs.Words.{longestLine, noWords, gather, reading, startOf}
 use Rattle.block.proofs.Lines.{rest-none, lineFrom, line-from}
 use Rattle.rules.specs.Rules.{callsOrJumps, unknownNumber, lateN, afterProgram, axisTwice, lWordWrong, moreThanL, callWrong, pathWrong, centreWrong, isForeign, dWordWrong, dWordMissing, bitsWrong, motionWrong, broken, brokenBy, lacksBy, judgedAlone, refusedLine, judgedBy, judged}
 

@@ -3,7 +3,7 @@
 use mathlib.Core.Path.{_≡_, refl, sym, ap, subst, _∙_}
 use mathlib.Core.Logic.{⊎-elim}
 use mathlib.Core.List.{List, [], _∷_, _++_, append-assoc, append-nil}
-use Prim.Native.Nat.{ℕ, zero, suc, _+_, _-_, _≤_, _<_}
+use Prim.Native.Nat.{ℕ, zero, suc, _-_, _≤_, _<_}
 use native.Mathlib.Omega.{arith}
 use native.Mathlib.Numerals.{sub-one}
 use lib.IntN.{ℤ}
@@ -33,7 +33,7 @@ use Rattle.taking.specs.declared.step.Run.{Run}
 use Rattle.runners.specs.declared.run.Ending.{Ending}
 use Rattle.runners.specs.declared.run.Ending.the-variants.{Returned, Ended, Stopped}
 use Rattle.runners.specs.declared.run.Outcome.{Outcome}
-use Rattle.runners.specs.Runs.{Ran, ran, recordsOf, listedOf, pre, goBack, andThen, goOn, onward, blocks, blocksInAll, enough as spare, repeated, called, entry, programRun}
+use Rattle.runners.specs.Runs.{Ran, ran, recordsOf, listedOf, pre, goBack, andThen, goOn, onward, blocks, blocksInAll, enough as spare, repeated, called, programRun}
 use Rattle.runners.specs.Meets.{Begins, Took, RanMeets}
 use Rattle.runners.proofs.run.Ending.{the-type}
 

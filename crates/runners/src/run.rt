@@ -5,7 +5,6 @@ use ahead::Onward;
 use ahead::ProgramAt;
 use settings::control::Settings;
 use taking::step::Run;
-ghost use mathlib.Core.Path.{_≡_};
 ghost use lib.ListN.{length};
 ghost use Rattle.taking.specs.Steps.{taskOf};
 ghost use Rattle.runners.specs.Meets.{Begins, ProgramMeets, CallMeets};

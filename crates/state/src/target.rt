@@ -6,7 +6,6 @@ use whole::position::Placed;
 use whole::position::Position;
 ghost use mathlib.Core.Path.{_≡_};
 ghost use Prim.Native.Nat.{_≤_};
-ghost use lib.IntN.{ℤ};
 ghost use Rattle.state.specs.Target.{pairOf, correctionPair, offsetOf, targetX, targetZ};
 ghost use Rattle.settings.specs.Known.{Table};
 ghost use Rattle.state.specs.Known.{placeOr, Numbers, Sent};

@@ -2,7 +2,6 @@
 // It has no list, no buffer and no recursion. What it hands out of a block comes from the block's own cursor, as what the list engine writes does; what it hands out in all is held to the list
 // engine's records by the laws of `resuming`.
 // A turn: the blocks up to the next one that has words, that one, and where the run goes on behind it.
-use ahead::Frame;
 use ahead::Onward;
 use ahead::ProgramAt;
 use answers::Answer;

@@ -1,9 +1,9 @@
 -- A block that is not refused: its alarm is 0, its lengths are right, and its records have room.
 -- Assumes nothing.
-use mathlib.Core.Path.{_≡_, refl, sym, ap, _∙_, subst}
+use mathlib.Core.Path.{_≡_, refl}
 use mathlib.Core.Bool.{Bool, true, false, cond}
 use mathlib.Core.List.{List}
-use Prim.Native.Nat.{ℕ, _+_, _≤_}
+use Prim.Native.Nat.{ℕ, _≤_}
 use native.Mathlib.Omega.{arith}
 use lib.Dec.{eqb}
 use lib.IntN.{ℤ}
@@ -19,7 +19,6 @@ use Rattle.asking.proofs.Judging.{Passed, passed, all-right, counted}
 use Rattle.writing.specs.Writes.{writes}
 use Rattle.writing.proofs.Chain.{writes-length}
 use Rattle.verdicts.specs.declared.Going.{Going}
-use Rattle.verdicts.specs.declared.Verdict.{Verdict}
 use Rattle.verdicts.specs.declared.Verdict.the-variants.{Refused, Goes}
 use Rattle.verdicts.specs.Verdicts.{deedIn, asksIn, askedIn, alarmIn, goingOf, verdictOf}
 

@@ -1,7 +1,7 @@
 // A position of an axis in whole micrometres; an X position is a diameter. (01: "All lengths are whole micrometres. X positions are diameters".)
 // It is built from a word and its offset, or from where the axis stands and an incremental word, and is refused where it is out of range.
 ghost use mathlib.Core.Path.{_≡_};
-ghost use lib.IntN.{ℤ, pos, _+ℤ_, _*ℤ_};
+ghost use lib.IntN.{pos, _+ℤ_, _*ℤ_};
 ghost use Rattle.whole.specs.Position.{inTable, placed};
 
 pub struct Position {

@@ -1,7 +1,7 @@
 // Signed numbers around zero: how far apart two of them are, on which side one lies of another, and a step to a side.
 // One rule serves both axes and both directions.
 ghost use mathlib.Core.Path.{_≡_};
-ghost use lib.IntN.{ℤ, _+ℤ_, _-ℤ_, natAbs};
+ghost use lib.IntN.{_+ℤ_, _-ℤ_, natAbs};
 ghost use mir.Syntax.{w32};
 ghost use mir.Val.{SFits};
 ghost use Rattle.whole.specs.Signed.{sideOf, along};

@@ -4,7 +4,6 @@ use native.Mathlib.Omega.{arith}
 use borrow.Author.Needs.{needs}
 use Rattle.asking.specs.Judge.{asksOf}
 use Rattle.deeds.specs.Known.{Known}
-use Rattle.asking.specs.declared.Asks.{Asks}
 use Rattle.asking.proofs.Judging.{asks-by, count-by}
 use Rattle.asking.proofs.asks_of.Statement.{statement}
 use Rattle.asking.proofs.asks_of.Tie as tie

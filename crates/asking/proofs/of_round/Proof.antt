@@ -1,7 +1,6 @@
 -- `asking::of_round` meets its contract.
 use mathlib.Core.Bool.{true, false}
 use Rattle.cycles.specs.Feeds.{leastOfFeed}
-use borrow.Author.Needs.{needs}
 use Rattle.asking.proofs.of_round.Statement.{statement}
 use Rattle.asking.proofs.of_round.Tie as tie
 

@@ -1,5 +1,5 @@
 -- `asking::of_straight` meets its contract.
-use mathlib.Core.Path.{_≡_, _∙_}
+use mathlib.Core.Path.{_∙_}
 use mathlib.Core.Bool.{false, not}
 use mir.Syntax.{w32}
 use mir.Val.{SFits}

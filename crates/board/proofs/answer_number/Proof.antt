@@ -1,8 +1,7 @@
 -- `board::answer_number` meets its contract.
-use mathlib.Core.Path.{_≡_, sym, ap, _∙_}
+use mathlib.Core.Path.{sym, ap, _∙_}
 use native.Mathlib.Omega.{arith}
 use borrow.Author.Needs.{needs}
-use Rattle.answers.specs.declared.Answer.{Answer}
 use Rattle.board.specs.Asked.{answerNumber}
 use Rattle.board.proofs.answer_number.Statement.{statement}
 use Rattle.board.proofs.answer_number.Tie as tie

@@ -1,8 +1,6 @@
 -- `board::tm02_start` meets its contract.
-use mathlib.Core.Path.{_≡_, sym, ap, _∙_}
-use mathlib.Core.Bool.{true, false}
+use mathlib.Core.Path.{sym, ap}
 use borrow.Author.Needs.{needs}
-use denote.Ref.{now}
 use Rattle.board.specs.Asked.{startNumber}
 use Rattle.board.proofs.tm02_start.Statement.{statement}
 use Rattle.board.proofs.tm02_start.Tie as tie

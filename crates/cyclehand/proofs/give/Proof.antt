@@ -2,11 +2,11 @@
 use mathlib.Core.Path.{_≡_, refl, sym, _∙_}
 use mathlib.Core.Bool.{true, false}
 use borrow.Author.Needs.{needs}
-use borrow.Author.Tests.{ne-eqb}
+use borrow.Author.Tests.{ne-eqb, not-true, not-false}
 use Rattle.handwords.specs.Due.{isDeed, slotOf}
 use Rattle.handwords.proofs.Slots.{slot-turning, slot-threading, slot-grooving, slot-drilling}
 use Rattle.passhand.specs.Gives.{goesOn}
-use Rattle.passhand.proofs.Giving.{was-false, was-true, no-deed, no-cycle, by-slot}
+use Rattle.passhand.proofs.Giving.{no-deed, no-cycle, by-slot}
 use Rattle.cyclehand.proofs.give.Statement.{statement}
 use Rattle.cyclehand.proofs.give.Tie as tie
 
@@ -15,12 +15,12 @@ abbrev start : tie.Else1 → tie.Start
 start e = e .before .before .before .before .before
 
 deed : (e : tie.Else1) → isDeed (start e .args .due .now) ≡ true
-deed e = sym (e .before .is-deed .ensures) ∙ was-true _ (e .if1 .left)
+deed e = sym (e .before .is-deed .ensures) ∙ not-false _ (e .if1 .left)
 
 returns : tie.Need-returns
 returns c =
     let a = c .before .before .before .before .before .args in
-    no-deed (a .origin) (a .stops) (a .due .now) (a .«record» .now) (sym (c .before .is-deed .ensures) ∙ was-false _ (c .if1 .taken))
+    no-deed (a .origin) (a .stops) (a .due .now) (a .«record» .now) (sym (c .before .is-deed .ensures) ∙ not-true _ (c .if1 .taken))
 
 returns-2 : tie.Need-returns-2
 returns-2 c =

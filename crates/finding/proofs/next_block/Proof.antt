@@ -10,8 +10,6 @@ use Rattle.block.specs.Words.{StartIn}
 use Rattle.block.specs.declared.words.LineStart.{LineStart}
 use Rattle.block.proofs.Lines.{headFrom}
 use Rattle.finding.specs.declared.Here.{Here}
-use Rattle.places.specs.declared.Found.{Found}
-use Rattle.places.specs.declared.Found.the-variants.{At, Nowhere}
 use Rattle.finding.specs.Finding.{AnyBlock, hereOf, foundBy, firstBlock, nextBlock}
 use Rattle.finding.proofs.Searching.{seek-end, first-more, found-is, found-in}
 use Rattle.finding.proofs.next_block.Statement.{statement}

@@ -1,11 +1,11 @@
 -- `inhand::give_any` meets its contract.
 use borrow.Author.Needs.{needs}
+use borrow.Author.Tests.{not-true, not-false}
 use mathlib.Core.Path.{_≡_, sym, _∙_}
 use lib.ListN.{length}
 use Rattle.telling.proofs.Tells.{never}
 use Rattle.resumable.specs.Kept.{Fits}
 use Rattle.cyclewords.specs.Sizes.{dueWords}
-use Rattle.passhand.proofs.Giving.{was-false, was-true}
 use Rattle.statewords.proofs.Parts.{length-due}
 use Rattle.inhand.specs.State.{dueIn}
 use Rattle.inhand.proofs.Giving.{Read, read-sound, unfit, none-left, last, more}
@@ -30,7 +30,7 @@ read-of n =
 fits : (n : tie.After-origin-of) → Fits (n .before .before .before .before .before .before .before .slot-of .result)
 fits n =
     let tested = n .before .before .before .before .before in
-    tested .before .is-fit .ensures .0 (was-true _ (tested .if1 .left))
+    tested .before .is-fit .ensures .0 (not-false _ (tested .if1 .left))
 
 abbrev origin-at : tie.After-is-over2 → tie.After-origin-of
 origin-at c = c .before .before .before .before .before .before .before .before .before
@@ -47,7 +47,7 @@ returns c =
     let slot = fit .before in
     let s = slot .before .before .before .before in
     unfit (s .args .state .now) (s .args .«record» .now) (s .pre .1) (slot .slot-of .result) (slot .slot-of .ensures)
-    (λ f. never (sym (was-false _ (c .if1 .taken)) ∙ fit .is-fit .ensures .1 f))
+    (λ f. never (sym (not-true _ (c .if1 .taken)) ∙ fit .is-fit .ensures .1 f))
 
 due-of-requires : tie.Need-due-of-requires
 due-of-requires c κs = front (c .before .before .before .before .before .before)

@@ -1,5 +1,5 @@
 -- `jumping::jump_in` meets its contract.
-use mathlib.Core.Path.{_≡_, refl, sym, ap, _∙_}
+use mathlib.Core.Path.{refl, sym, ap, _∙_}
 use mathlib.Core.Bool.{true, false}
 use Prim.Native.Nat.{_≤_}
 use lib.ListN.{length}
@@ -7,7 +7,7 @@ use denote.Ref.{now}
 use borrow.Author.Needs.{needs}
 use Rattle.numbers.specs.declared.NumberForm.the-variants.{FiveDigits}
 use Rattle.numbers.specs.Numbers.{numberOf}
-use Rattle.jumping.specs.Jumping.{isFront, toBy}
+use Rattle.jumping.specs.Jumping.{toBy}
 use Rattle.jumping.proofs.Texts.{front-long, jump-by, part-is}
 use Rattle.jumping.proofs.jump_in.Statement.{statement}
 use Rattle.jumping.proofs.jump_in.Tie as tie

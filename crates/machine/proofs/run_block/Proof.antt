@@ -15,7 +15,6 @@ use Rattle.deeds.specs.Known.{Right}
 use Rattle.writing.specs.Writes.{writes}
 use Rattle.verdicts.specs.Verdicts.{goingOf, verdictOf}
 use Rattle.verdicts.specs.Known.{Known}
-use Rattle.verdicts.specs.declared.Verdict.{Verdict}
 use Rattle.verdicts.specs.declared.Going.{Going}
 use Rattle.verdicts.proofs.Passing.{went, was-refused, right-in, counted-in}
 use Rattle.machine.proofs.Running.{refused, nothing-written, done-few, done-recorded, going-records, going-state, went-well}

@@ -1,16 +1,9 @@
 -- `onemove::can_go_on` meets its contract.
-use mathlib.Core.Path.{sym, _∙_}
-use mathlib.Core.Bool.{Bool, true, false, not, _&&_}
+use mathlib.Core.Bool.{Bool, true, false, _&&_}
 use mathlib.Core.Path.{_≡_, refl}
-use native.Mathlib.Omega.{arith}
-use Prim.Native.Nat.{ℕ, _≤_}
-use lib.Dec.{leb}
 use borrow.Author.Needs.{needs}
-use borrow.Author.Tests.{ltb-true, lt-ltb, leb-true, le-leb}
-use Rattle.telling.proofs.Tells.{Tells, tells-no, told-no, never}
-use Rattle.paused.specs.Kept.{Kept}
-use Rattle.onemove.specs.OneMove.{CanGoOn}
-use Rattle.onemove.proofs.Asking.{was-false, was-true}
+use borrow.Author.Tests.{ltb-true, lt-ltb, leb-true, le-leb, not-true, not-false}
+use Rattle.telling.proofs.Tells.{tells-no, told-no, never}
 use Rattle.onemove.proofs.can_go_on.Statement.{statement}
 use Rattle.onemove.proofs.can_go_on.Tie as tie
 
@@ -23,10 +16,10 @@ and-true : {a b : Bool} → a ≡ true → b ≡ true → a && b ≡ true
 and-true {a} {b} e f = rw (e, f) refl
 
 returns : tie.Need-returns
-returns c = let k = c .before in tells-no (λ n. told-no (k .is-kept .ensures) (was-false _ (c .if1 .taken)) (n .kept))
+returns c = let k = c .before in tells-no (λ n. told-no (k .is-kept .ensures) (not-true _ (c .if1 .taken)) (n .kept))
 
 returns-2 : tie.Need-returns-2
-returns-2 c = let k = c .before in tells-no (λ n. told-no (k .is-fit .ensures) (was-false _ (c .if2 .taken)) (n .state))
+returns-2 c = let k = c .before in tells-no (λ n. told-no (k .is-fit .ensures) (not-true _ (c .if2 .taken)) (n .state))
 
 returns-3 : tie.Need-returns-3
 returns-3 c =
@@ -38,8 +31,8 @@ returns-3 c =
       λ t. let q = both _ _ t in
           let p = both _ _ (q .1) in
           record {
-            kept = k .is-kept .ensures .0 (was-true _ (d .if1 .left));
-            state = f .is-fit .ensures .0 (was-true _ (e .if2 .left));
+            kept = k .is-kept .ensures .0 (not-false _ (d .if1 .left));
+            state = f .is-fit .ensures .0 (not-false _ (e .if2 .left));
             some = ltb-true 0 (a .g .end) (q .0);
             end = leb-true (a .g .end) (a .tape) (p .0);
             filled = leb-true (a .g .filled) (a .places) (p .1);

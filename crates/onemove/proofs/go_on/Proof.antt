@@ -1,13 +1,10 @@
 -- `onemove::go_on` meets its contract.
-use mathlib.Core.Path.{_≡_, refl, sym, ap, subst, _∙_}
-use mathlib.Core.Bool.{Bool, true, false, not}
-use native.Mathlib.Omega.{arith}
-use Prim.Native.Nat.{ℕ, _+_}
-use lib.ListN.{length, take}
+use mathlib.Core.Path.{_≡_, sym, ap, subst, _∙_}
+use mathlib.Core.Bool.{false}
 use lib.Seq.{length-take-le}
 use borrow.Author.Needs.{needs}
+use borrow.Author.Tests.{not-true, not-false}
 use denote.Ref.{now}
-use Rattle.settings.specs.Row.{settingsOf}
 use Rattle.settings.specs.Points.{withPoints}
 use Rattle.settings.specs.declared.control.Settings.{Settings}
 use Rattle.settings.specs.Wrong.{settingsWrong}
@@ -19,7 +16,7 @@ use Rattle.runwords.specs.Taken.{goingOf}
 use Rattle.runwords.proofs.Keeping.{kept-small}
 use Rattle.paused.specs.declared.Going.{Going}
 use Rattle.inhand.specs.State.{runIn}
-use Rattle.onemove.proofs.Asking.{was-false, was-true, to-end, run-is, unfit-ask, wrong-ask, cannot-ask, turned-ask}
+use Rattle.onemove.proofs.Asking.{to-end, run-is, unfit-ask, wrong-ask, cannot-ask, turned-ask}
 use Rattle.onemove.proofs.go_on.Statement.{statement}
 use Rattle.onemove.proofs.go_on.Tie as tie
 
@@ -53,13 +50,13 @@ returns-3 c =
     let s = begun k in
     let a = s .args in
     cannot-ask (now (a .tape)) (now (a .table)) (now (a .settings)) (now (a .places)) (now (a .state)) (now (a .«record»)) (s .pre .1) (s .pre .2) (is-run k)
-    (told-no (c .before .can-go-on .ensures) (was-false _ (c .if3 .taken)))
+    (told-no (c .before .can-go-on .ensures) (not-true _ (c .if3 .taken)))
 
 slice-aggregate-lines : tie.Need-slice-aggregate-lines
 slice-aggregate-lines c =
     let o = c .before .before .before in
     let k = o .before in
-    let n = o .can-go-on .ensures .0 (was-true _ (c .before .before .if3 .left)) in
+    let n = o .can-go-on .ensures .0 (not-false _ (c .before .before .if3 .left)) in
     sym (length-take-le (k .going-of .result .end) (now (begun k .args .tape)) (n .end))
 
 -- what the turns are given
@@ -72,7 +69,7 @@ advance-requires c κs =
     let k = o .before in
     let s = begun k in
     let e = k .before .before .before in
-    let n = o .can-go-on .ensures .0 (was-true _ (c .before .before .if3 .left)) in
+    let n = o .can-go-on .ensures .0 (not-false _ (c .before .before .if3 .left)) in
     let r = subst (λ (y : Settings). Right (now (s .args .table)) y) (sym (c .before .with-points .ensures)) (right-points false (right (now (s .args .table)) (e .before .before .settings-of .result) (fine e))) in (
       record {
         offsets = r .offsets;

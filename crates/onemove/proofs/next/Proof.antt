@@ -1,18 +1,17 @@
 -- `onemove::next` meets its contract.
-use mathlib.Core.Path.{_≡_, refl, sym, ap, subst, _∙_}
-use mathlib.Core.Bool.{Bool, true, false, not}
+use mathlib.Core.Path.{_≡_, sym, ap, _∙_}
 use mathlib.Core.List.{List}
 use native.Mathlib.Omega.{arith}
-use Prim.Native.Nat.{ℕ, _≤_}
+use Prim.Native.Nat.{ℕ}
 use lib.ListN.{length, take}
 use lib.Seq.{length-take-le}
 use borrow.Author.Needs.{needs}
+use borrow.Author.Tests.{not-true, not-false}
 use denote.Ref.{now}
 use Rattle.runwords.specs.Taken.{phaseOf}
-use Rattle.paused.specs.declared.Phase.{Phase}
 use Rattle.taking.specs.declared.step.Hand.the-variants.{Nothing}
-use Rattle.inhand.specs.State.{stateWords, handIn, runIn, isEmptyIn}
-use Rattle.onemove.proofs.Asking.{was-false, was-true, to-end, empty-hand, run-phase, given-ask, not-given-ask, over-ask, next-other, next-short, next-asks}
+use Rattle.inhand.specs.State.{stateWords, handIn, runIn}
+use Rattle.onemove.proofs.Asking.{to-end, empty-hand, run-phase, given-ask, not-given-ask, over-ask, next-other, next-short, next-asks}
 use Rattle.onemove.proofs.next.Statement.{statement}
 use Rattle.onemove.proofs.next.Tie as tie
 
@@ -43,7 +42,7 @@ give-next-requires : tie.Need-give-next-requires
 give-next-requires c κs =
     let t = c .before .before in
     let e = c .before .before .before .before .before in
-    (long e, sym (t .before .is-empty .ensures) ∙ was-false _ (t .if3 .taken), e .if2 .left)
+    (long e, sym (t .before .is-empty .ensures) ∙ not-true _ (t .if3 .taken), e .if2 .left)
 
 returns-3 : tie.Need-returns-3
 returns-3 c =
@@ -67,7 +66,7 @@ module _ (k : tie.After-phase-of) where
   asked = k .before .before .before .before .before .before
 
   none : handIn (now (begun asked .args .state)) ≡ Nothing
-  none = let t = k .before .before .before in empty-hand (now (begun asked .args .state)) (sym (t .before .is-empty .ensures) ∙ was-true _ (t .if3 .left))
+  none = let t = k .before .before .before in empty-hand (now (begun asked .args .state)) (sym (t .before .is-empty .ensures) ∙ not-false _ (t .if3 .left))
 
   is-phase : runIn (now (begun asked .args .state)) .phase ≡ k .phase-of .result
   is-phase = run-phase (now (begun asked .args .state)) ∙ sym (k .phase-of .ensures ∙ ap phaseOf (to-end (now (begun asked .args .state)) 54))

@@ -1,8 +1,6 @@
 -- `onemove::start` meets its contract.
-use mathlib.Core.Path.{sym, _∙_, subst}
 use borrow.Author.Needs.{needs}
 use denote.Ref.{now}
-use Rattle.runwords.specs.Laid.{Small}
 use Rattle.runwords.proofs.Keeping.{kept-small}
 use Rattle.onemove.proofs.Starting.{not-started, started}
 use Rattle.onemove.proofs.start.Statement.{statement}

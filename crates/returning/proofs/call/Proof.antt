@@ -1,5 +1,5 @@
 -- `returning::call` meets its contract.
-use mathlib.Core.Path.{_∙_, sym, ap, subst}
+use mathlib.Core.Path.{_∙_, ap}
 use native.Mathlib.Omega.{arith}
 use borrow.Author.Needs.{needs}
 use lib.ListN.{length, length-set}

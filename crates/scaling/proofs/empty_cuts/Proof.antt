@@ -1,5 +1,5 @@
 -- `scaling::empty_cuts` meets its contract.
-use mathlib.Core.Path.{_≡_, refl, sym, ap, _∙_}
+use mathlib.Core.Path.{refl, sym, ap, _∙_}
 use borrow.Author.Needs.{needs}
 use Rattle.block.specs.Slots.{has}
 use Rattle.scaling.specs.Scaled.{dWord}

@@ -1,5 +1,5 @@
 -- `stepping::go_on` meets its contract.
-use mathlib.Core.Path.{_≡_, sym, ap, subst, _∙_}
+use mathlib.Core.Path.{_≡_, sym, ap, _∙_}
 use Prim.Native.Nat.{ℕ}
 use native.Mathlib.Omega.{arith}
 use lib.ListN.{length}
@@ -9,7 +9,7 @@ use Rattle.ahead.specs.declared.Frame.{Frame}
 use Rattle.ahead.specs.Ahead.{onto}
 use Rattle.ahead.specs.declared.Onward.{Onward}
 use Rattle.paused.specs.declared.Going.{Going}
-use Rattle.returning.specs.Moving.{withinOf, movedTo, cameBack, calledTo, goneOn}
+use Rattle.returning.specs.Moving.{movedTo, cameBack, calledTo, goneOn}
 use Rattle.returning.proofs.Keeping.{within-fits}
 use Rattle.stepping.proofs.go_on.Statement.{statement}
 use Rattle.stepping.proofs.go_on.Tie as tie

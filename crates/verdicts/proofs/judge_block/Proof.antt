@@ -4,7 +4,6 @@ use denote.Ref.{now}
 use borrow.Author.Needs.{needs}
 use Rattle.asking.specs.Judge.{asksOf, alarmOf}
 use Rattle.deeds.specs.declared.deed.Deed.{Deed}
-use Rattle.asking.specs.declared.Asks.{Asks}
 use Rattle.verdicts.specs.declared.Verdict.the-variants.{Refused, Goes}
 use Rattle.verdicts.specs.Verdicts.{asksIn, alarmIn, goingOf}
 use Rattle.verdicts.proofs.Passing.{verdict-goes, verdict-refused}

@@ -1,6 +1,6 @@
 -- `arrows::arrow::squared` meets its contract.
 use mathlib.Core.Path.{_∙_}
-use Prim.Native.Nat.{_*_, _≤_}
+use Prim.Native.Nat.{_≤_}
 use native.Mathlib.Omega.{arith}
 use native.Mathlib.Nat.{mul-le-mul}
 use lib.Dec.{T}

@@ -1,6 +1,6 @@
 -- `block::words::slot_of` meets its contract.
 use mathlib.Core.Path.{_≡_, ap, sym, _∙_}
-use Prim.Native.Nat.{ℕ, _+_}
+use Prim.Native.Nat.{ℕ}
 use native.Mathlib.Omega.{arith}
 use Rattle.block.specs.declared.words.Slot.the-variants.{At}
 use Rattle.codes.specs.Codes.{gCode, mCode}

@@ -1,7 +1,6 @@
 -- `interpreter::interpret::interpret` meets its contract.
 use mathlib.Core.Path.{_≡_, sym, ap, _∙_}
 use mathlib.Core.Bool.{false}
-use lib.ListN.{length}
 use denote.Ref.{now}
 use borrow.Author.Needs.{needs}
 use Rattle.reading.specs.declared.read.TapeRead.{TapeRead}

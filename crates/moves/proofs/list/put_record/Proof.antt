@@ -1,6 +1,6 @@
 -- `moves::list::put_record` meets its contract.
 use borrow.Author.Needs.{needs}
-use mathlib.Core.Path.{_≡_, ap, subst, _∙_}
+use mathlib.Core.Path.{_≡_, ap, _∙_}
 use mathlib.Core.List.{List, [], _∷_}
 use Prim.Native.Nat.{ℕ, _+_, _*_, _^_, _<_}
 use lib.ListN.{getD}
@@ -8,7 +8,7 @@ use mir.Syntax.{w32}
 use mir.Val.{SFits, toZ, ofZ}
 use Rattle.moves.proofs.Writing.{record-laid}
 use Rattle.moves.specs.Form.{originBytes}
-use Rattle.whole.specs.Bytes.{littleEndian, valueOf, wordOf, laid}
+use Rattle.whole.specs.Bytes.{littleEndian, wordOf, laid}
 use Rattle.moves.proofs.list.put_record.Statement.{statement}
 use Rattle.moves.proofs.list.put_record.Tie as tie
 

@@ -1,10 +1,11 @@
 -- `passhand::turned::give` meets its contract.
 use mathlib.Core.Path.{_≡_, refl, sym, ap, _∙_}
 use borrow.Author.Needs.{needs}
+use borrow.Author.Tests.{not-true, not-false}
 use Rattle.stages.specs.declared.cursor.Due.the-variants.{Turning}
 use Rattle.handing.proofs.Cursors.{turning-next}
 use Rattle.cyclewords.specs.Turned.{turningOf}
-use Rattle.passhand.proofs.Giving.{was-false, was-true, over-other, not-fit, given}
+use Rattle.passhand.proofs.Giving.{over-other, not-fit, given}
 use Rattle.passhand.proofs.turned.give.Statement.{statement}
 use Rattle.passhand.proofs.turned.give.Tie as tie
 
@@ -26,13 +27,13 @@ returns-2 c =
     let fit = c .before in
     let t = fit .before .before in
     let a = start t .args in
-    not-fit (a .origin) (a .stops) (a .due .now) (a .«record» .now) (read t) refl (t .is-over .ensures) (fit .before .if1 .left) (fit .is-fit .ensures) (was-false _ (c .if2 .taken))
+    not-fit (a .origin) (a .stops) (a .due .now) (a .«record» .now) (read t) refl (t .is-over .ensures) (fit .before .if1 .left) (fit .is-fit .ensures) (not-true _ (c .if2 .taken))
 
 next-requires : tie.Need-next-requires
 next-requires c κs =
     let fit = c .before in
     let t = fit .before .before in
-    (fit .is-fit .ensures .0 (was-true _ (c .if2 .left)), sym (t .is-over .ensures) ∙ fit .before .if1 .left)
+    (fit .is-fit .ensures .0 (not-false _ (c .if2 .left)), sym (t .is-over .ensures) ∙ fit .before .if1 .left)
 
 returns-3 : tie.Need-returns-3
 returns-3 c =
@@ -43,7 +44,7 @@ returns-3 c =
     let fit = tested .before in
     let t = fit .before .before in
     let a = start t .args in
-    given (a .origin) (a .stops) (a .due .now) (a .«record» .now) (read t) refl (t .is-over .ensures) (fit .before .if1 .left) (fit .is-fit .ensures .0 (was-true _ (tested .if2 .left))) refl
+    given (a .origin) (a .stops) (a .due .now) (a .«record» .now) (read t) refl (t .is-over .ensures) (fit .before .if1 .left) (fit .is-fit .ensures .0 (not-false _ (tested .if2 .left))) refl
     (λ p s. turning-next p s refl (next .next .ensures)) (laid .put-record .ensures) (put .put-behind .ensures)
 
 pub give-spec : {M : Type 1} → statement M

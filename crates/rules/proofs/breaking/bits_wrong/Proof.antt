@@ -1,10 +1,9 @@
 -- `rules::breaking::bits_wrong` meets its contract.
-use mathlib.Core.Path.{_≡_, ap, _∙_}
-use Prim.Native.Nat.{ℕ}
+use mathlib.Core.Path.{ap, _∙_}
 use lib.Dec.{ltb}
 use borrow.Author.Tests.{eq-eqb, ne-eqb}
 use Rattle.acts.specs.Stands.{none, greatestBits}
-use Rattle.block.specs.Slots.{dSlot, codeIn}
+use Rattle.block.specs.Slots.{codeIn}
 use Rattle.rules.specs.Rules.{bitsWrong}
 use borrow.Author.Needs.{needs}
 use Rattle.rules.proofs.breaking.bits_wrong.Statement.{statement}

@@ -1,13 +1,11 @@
 -- `rules::breaking::d_word_missing` meets its contract.
-use mathlib.Core.Path.{_≡_, refl, ap, _∙_}
-use mathlib.Core.Bool.{Bool, false, not, _&&_}
+use mathlib.Core.Path.{ap, _∙_}
+use mathlib.Core.Bool.{not}
 use Prim.Native.Nat.{ℕ}
-use lib.Dec.{eqb}
 use borrow.Author.Tests.{eq-eqb, ne-eqb}
 use Rattle.acts.specs.Stands.{none}
-use Rattle.block.specs.Slots.{dSlot, has}
+use Rattle.block.specs.Slots.{has}
 use Rattle.rules.specs.Rules.{dWordMissing}
-use Rattle.rules.proofs.Ruling.{both}
 use borrow.Author.Needs.{needs}
 use Rattle.rules.proofs.breaking.d_word_missing.Statement.{statement}
 use Rattle.rules.proofs.breaking.d_word_missing.Tie as tie

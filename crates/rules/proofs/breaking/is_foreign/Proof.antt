@@ -1,6 +1,6 @@
 -- `rules::breaking::is_foreign` meets its contract.
-use mathlib.Core.Path.{ap, _∙_}
-use mathlib.Core.Bool.{not, _&&_}
+use mathlib.Core.Path.{ap}
+use mathlib.Core.Bool.{not}
 use borrow.Author.Tests.{eq-eqb, ne-eqb}
 use borrow.Author.Needs.{needs}
 use Rattle.rules.proofs.breaking.is_foreign.Statement.{statement}

@@ -1,5 +1,4 @@
 -- `rules::breaking::more_than_l` meets its contract.
-use mathlib.Core.List.{_++_, [], _∷_}
 use Rattle.block.specs.Slots.{xSlot, lSlot, numbersFrom, anyIn}
 use Rattle.rules.specs.Rules.{moreThanL, callsOrJumps}
 use Rattle.rules.proofs.Ruling.{first-fails, second-tells}

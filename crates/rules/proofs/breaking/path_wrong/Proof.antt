@@ -1,5 +1,5 @@
 -- `rules::breaking::path_wrong` meets its contract.
-use mathlib.Core.Path.{_≡_, refl, sym, ap, _∙_}
+use mathlib.Core.Path.{_≡_, sym, ap, _∙_}
 use mathlib.Core.Bool.{not}
 use Rattle.acts.specs.declared.stands.Path.{Path}
 use Rattle.block.specs.declared.words.Block.{Block}

@@ -1,5 +1,5 @@
 -- `rules::judge::judge_line` meets its contract.
-use mathlib.Core.Path.{_≡_, sym, ap, _∙_, subst}
+use mathlib.Core.Path.{sym, _∙_, subst}
 use lib.ListN.{length}
 use borrow.Author.Needs.{needs}
 use Rattle.block.specs.declared.words.LineStart.{LineStart}

@@ -1,5 +1,5 @@
 -- `rules::judge::judge_words` meets its contract.
-use mathlib.Core.Path.{_≡_, sym, ap, _∙_}
+use mathlib.Core.Path.{sym, ap, _∙_}
 use borrow.Author.Needs.{needs}
 use Rattle.addresses.specs.Words.{wordsFrom}
 use Rattle.block.specs.declared.words.Rest.{Rest}

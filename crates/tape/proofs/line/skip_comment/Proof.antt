@@ -1,6 +1,6 @@
 -- `tape::line::skip_comment` meets its contract.
 -- The loop's invariant: the comment goes on from `from` to i, and what is left of the gap is what is left of it from i on.
-use Prim.Native.Nat.{_-_, _<_, _≤_}
+use Prim.Native.Nat.{_-_, _≤_}
 use mathlib.Core.Bool.{true}
 use mathlib.Core.Path.{_≡_, _∙_}
 use native.Mathlib.Omega.{arith}

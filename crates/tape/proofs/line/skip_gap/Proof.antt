@@ -1,6 +1,6 @@
 -- `tape::line::skip_gap` meets its contract.
 -- The loop's invariant: the gap from `from` on ends where the gap from `i` on ends, outside a comment.
-use Prim.Native.Nat.{_+_, _-_, _<_, _≤_}
+use Prim.Native.Nat.{_+_, _-_, _≤_}
 use mathlib.Core.Bool.{false}
 use mathlib.Core.Path.{_≡_, refl, sym, _∙_, subst}
 use native.Mathlib.Omega.{arith}
