@@ -10,14 +10,8 @@ use Rattle.whole.proofs.Laying.{laid-nil, laid-on, length-laid}
 use Rattle.moves.specs.declared.record.Record.{Record}
 use Rattle.moves.specs.declared.record.Origin.{Origin}
 use Rattle.moves.specs.Form.{recordSize, recordBytes, listed, rowFrom}
+use Rattle.moves.specs.Written.{Written}
 use Rattle.moves.proofs.Rows.{length-from, from-none, from-one, from-append}
-
--- some of the row c is written from the place `first` on, as it came from the block o, `now` has the others, and the next is due at the place `at`
-pub record Written (o : Origin) (b₀ : List ℕ) (first : ℕ) (c : List Record) (b : List ℕ) (now : List Record) (at : ℕ) : Type 0 where
-  pub done : List Record
-  pub same : c ≡ done ++ now
-  pub place : at ≡ first + recordSize * length done
-  pub buffer : b ≡ laid b₀ first (rowFrom o done)
 
 pub none-written : (o : Origin) (b₀ : List ℕ) (first : ℕ) (c : List Record) → Written o b₀ first c b₀ c first
 none-written o b₀ first c = record { done = []; same = refl; place = omega arith; buffer = sym (ap (laid b₀ first) (from-none o) ∙ laid-nil b₀ first) }

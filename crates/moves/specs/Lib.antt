@@ -3,3 +3,4 @@ pub mod Kinds
 pub mod Form
 pub mod Reading
 pub mod Last
+pub mod Written

@@ -10,7 +10,7 @@ use lib.IntN.{ℤ, _+ℤ_, _-ℤ_}
 use lib.ListN.{length}
 use mir.Syntax.{w32}
 use mir.Val.{SFits}
-use borrow.Author.Tests.{lt-ltb, ltb-true, ne-eqb}
+use borrow.Author.Tests.{lt-ltb, ltb-true, ltb-false, ne-eqb}
 use Rattle.whole.specs.declared.signed.Side.the-variants.{Minus}
 use Rattle.whole.specs.Signed.{along}
 use Rattle.whole.proofs.Integers.{whole, range, sub-in, abs}
@@ -28,7 +28,7 @@ use Rattle.plunges.specs.declared.cursor.Stage.the-variants.{Cut, Back, 
 use Rattle.plunges.specs.declared.cursor.Cursor.{Cursor}
 use Rattle.plunges.specs.declared.cursor.CutAndBack.{CutAndBack}
 use Rattle.grooving.specs.Grooving.{lengthOf, wrong, rest, steps, cuts, cutTo, outTo, deepAt, cutting, dwelling, plunge, plunges, afterFirst, grooving}
-use Rattle.plunges.specs.Cursor.{others, fromOut, restAt, restOf, overAt, over, beforeBackAt, beforeBack, at, afterCut, Ready, Sound, Makes, MakesCut}
+use Rattle.plunges.specs.Cursor.{others, fromOut, restAt, restOf, overAt, over, beforeCutAt, beforeCut, beforeBackAt, beforeBack, beforeDwellAt, beforeDwell, behindCutsAt, behindCuts, at, afterCut, Ready, Sound, Makes, MakesCut}
 use Rattle.grooving.proofs.Asked.{width-fits}
 use Rattle.grooving.proofs.Counts.{Stands}
 use Rattle.grooving.proofs.Rows.{some-cuts, cuts-length, cuts-sum, steps-sum}
@@ -93,21 +93,24 @@ module _ (c : Cursor) {now : Stage} (sound : Sound c) (stage : c .stage ≡ now)
   is-ready = subst (λ (s : Stage). Ready s c) stage (sound .ready)
 
   -- from a stage of a plunge to another: of the records from the one on, the first
-  pub within : (s : Stage) {r made : Record} {rest : Cursor} → Ready s (at c s) → restAt now c ≡ r ∷ restAt s (at c s) → made ≡ r → rest ≡ at c s → Makes c made rest
+  pub within : (s : Stage) {r made : Record} {rest : Cursor} → Ready s (at c s) → restAt now c ≡ r ∷ restAt s (at c s) → made ≡ r → rest ≡ at c s → Makes c made rest × (rest .stage ≡ s)
   unfolding restOf
-  within s h e m b = record {
-    first = here ∙ e ∙ (λ i. sym m i ∷ restOf (sym b i));
-    sound = subst Sound (sym b) (record {
-      row = sound .row;
-      some = sound .some;
-      whole = sound .whole;
-      far = sound .far;
-      reach = sound .reach;
-      small = sound .small;
-      wide = sound .wide;
-      ready = h;
-    });
-  }
+  within s h e m b = (
+    record {
+      first = here ∙ e ∙ (λ i. sym m i ∷ restOf (sym b i));
+      sound = subst Sound (sym b) (record {
+        row = sound .row;
+        some = sound .some;
+        whole = sound .whole;
+        far = sound .far;
+        reach = sound .reach;
+        small = sound .small;
+        wide = sound .wide;
+        ready = h;
+      });
+    },
+    ap (λ (k : Cursor). k .stage) b,
+  )
 
 -- ---- a cut
 -- what follows a cut to the depth t, where the cuts ds are left
@@ -201,22 +204,24 @@ module _ (c : Cursor) (sound : Sound c) {d : ℕ} (ds : Pieces) (row : rowOf (c 
 
 -- ---- the rapid out
 module _ (c : Cursor) (sound : Sound c) (stage : c .stage ≡ Out) {made : Record} {rest : Cursor} (m : made ≡ outTo (c .groove) (c .width) (c .groove .depth .start)) where
-  pub goes-across : c .several ≡ true → rest ≡ at c Across → Makes c made rest
+  pub goes-across : c .several ≡ true → rest ≡ at c Across → Makes c made rest × (rest .stage ≡ cond (c .several) Across Over)
   unfolding restAt
   goes-across e b =
-      within c sound stage Across tt (ap (λ (t : Bool). outTo (c .groove) (c .width) (c .groove .depth .start) ∷ cond t (others c) []) e) m b
+      let w = within c sound stage Across tt (ap (λ (t : Bool). outTo (c .groove) (c .width) (c .groove .depth .start) ∷ cond t (others c) []) e) m b in
+      (w .0, w .1 ∙ ap (λ (t : Bool). cond t Across Over) (sym e))
 
-  pub goes-over : c .several ≡ false → rest ≡ at c Over → Makes c made rest
+  pub goes-over : c .several ≡ false → rest ≡ at c Over → Makes c made rest × (rest .stage ≡ cond (c .several) Across Over)
   unfolding restAt
   goes-over e b =
-      within c sound stage Over tt (ap (λ (t : Bool). outTo (c .groove) (c .width) (c .groove .depth .start) ∷ cond t (others c) []) e) m b
+      let w = within c sound stage Over tt (ap (λ (t : Bool). outTo (c .groove) (c .width) (c .groove .depth .start) ∷ cond t (others c) []) e) m b in
+      (w .0, w .1 ∙ ap (λ (t : Bool). cond t Across Over) (sym e))
 
 -- ---- behind a plunge
 -- the rapid to the start
 pub goes-home : (c : Cursor) → Sound c → c .stage ≡ Across → c .steps .left ≡ 0 → {made : Record} {rest : Cursor}
-    → made ≡ outTo (c .groove) (c .groove .width .start) (c .groove .depth .start) → rest ≡ at c Over → Makes c made rest
+    → made ≡ outTo (c .groove) (c .groove .width .start) (c .groove .depth .start) → rest ≡ at c Over → Makes c made rest × (beforeCut rest ≡ true)
 unfolding restAt plunges
-goes-home c sound stage z m b = within c sound stage Over tt (ap (plunges (c .groove) (c .width)) (none-left (c .steps) z)) m b
+goes-home c sound stage z m b = let w = within c sound stage Over tt (ap (plunges (c .groove) (c .width)) (none-left (c .steps) z)) m b in (w .0, ap beforeCutAt (w .1))
 
 -- the rapid to the next plunge
 module _ (c : Cursor) (sound : Sound c) {d : ℕ} (ds : Pieces) (row : rowOf (c .steps) ≡ d ∷ rowOf ds) where
@@ -233,24 +238,27 @@ module _ (c : Cursor) (sound : Sound c) {d : ℕ} (ds : Pieces) (row : rowOf (c 
   plungeNext w = record { groove = c .groove; stage = Cut; width = w; deep = 0; cuts = c .plunge; plunge = c .plunge; steps = ds; several = true }
 
   pub goes-on : c .stage ≡ Across → {w : ℤ} {made : Record} {rest : Cursor} → w ≡ widthNext
-      → made ≡ outTo (c .groove) w (c .groove .depth .start) → rest ≡ plungeNext w → Makes c made rest
+      → made ≡ outTo (c .groove) w (c .groove .depth .start) → rest ≡ plungeNext w → Makes c made rest × (beforeCut rest ≡ true)
   unfolding restOf restAt plunges
-  goes-on stage {w} e m b = record {
-    first = here c sound stage ∙ ap (plunges g (c .width)) row
-        ∙ ap (λ (l : List Record). outTo g widthNext (g .depth .start) ∷ l) (plunge-then g widthNext (plunges g widthNext (rowOf ds)))
-        ∙ ap (λ (l : List ℕ). outTo g widthNext (g .depth .start) ∷ (cutting g widthNext 0 l ++ (dwelling g widthNext ++ (outTo g widthNext (g .depth .start) ∷ plunges g widthNext (rowOf ds))))) (sym (sound .row))
-        ∙ (λ i. sym (m ∙ ap (λ (x : ℤ). outTo g x (g .depth .start)) e) i ∷ restOf (sym (b ∙ ap plungeNext e) i));
-    sound = subst Sound (sym (b ∙ ap plungeNext e)) (record {
-      row = sound .row;
-      some = sound .some;
-      whole = sound .whole;
-      far = sound .far;
-      reach = omega (arith, sound .whole);
-      small = omega (arith, all, sound .small);
-      wide = subst (SFits w32) (ap (λ (n : ℕ). c .width +ℤ along Minus n) all ∙ sym (along-add (c .width) Minus d (sum (rowOf ds)))) (sound .wide);
-      ready = sound .some;
-    });
-  }
+  goes-on stage {w} e m b = (
+    record {
+      first = here c sound stage ∙ ap (plunges g (c .width)) row
+          ∙ ap (λ (l : List Record). outTo g widthNext (g .depth .start) ∷ l) (plunge-then g widthNext (plunges g widthNext (rowOf ds)))
+          ∙ ap (λ (l : List ℕ). outTo g widthNext (g .depth .start) ∷ (cutting g widthNext 0 l ++ (dwelling g widthNext ++ (outTo g widthNext (g .depth .start) ∷ plunges g widthNext (rowOf ds))))) (sym (sound .row))
+          ∙ (λ i. sym (m ∙ ap (λ (x : ℤ). outTo g x (g .depth .start)) e) i ∷ restOf (sym (b ∙ ap plungeNext e) i));
+      sound = subst Sound (sym (b ∙ ap plungeNext e)) (record {
+        row = sound .row;
+        some = sound .some;
+        whole = sound .whole;
+        far = sound .far;
+        reach = omega (arith, sound .whole);
+        small = omega (arith, all, sound .small);
+        wide = subst (SFits w32) (ap (λ (n : ℕ). c .width +ℤ along Minus n) all ∙ sym (along-add (c .width) Minus d (sum (rowOf ds)))) (sound .wide);
+        ready = sound .some;
+      });
+    },
+    ap (λ (k : Cursor). beforeCut k) b,
+  )
     where
       g : Groove
       g = c .groove
@@ -287,4 +295,64 @@ cut-then-back c e =
     (h .0, ap (λ (b : Bool). cond b Back (cond (ltb 0 (c .groove .dwell)) Dwell Out)) (lt-ltb 0 (c .cuts .left - 1) (omega (arith, h .1))))
 
 pub two-make : {c k : Cursor} {p : CutAndBack} → Makes c (p .cut) k → Makes k (p .back) (p .rest) → p .rest .stage ≡ Cut → MakesCut c p
-two-make {p = p} a b stage = record { first = a .first ∙ ap (λ (l : List Record). p .cut ∷ l) (b .first); sound = b .sound; more = ap overAt stage }
+two-make {p = p} a b stage = record { first = a .first ∙ ap (λ (l : List Record). p .cut ∷ l) (b .first); sound = b .sound; cut = stage }
+
+-- ---- the end of a plunge
+pub cut-next-is : (c : Cursor) → beforeCut c ≡ true → over c ≡ false → c .stage ≡ Cut
+cut-next-is c e v = go (c .stage) e v
+  where
+    go : (s : Stage) → beforeCutAt s ≡ true → overAt s ≡ false → s ≡ Cut
+    go Cut e v = refl
+    go Back e v = absurd (never e)
+    go Dwell e v = absurd (never e)
+    go Out e v = absurd (never e)
+    go Across e v = absurd (never e)
+    go Over e v = absurd (never (sym v))
+
+-- behind a cut that no rapid back follows: the dwell, or the way out
+pub last-behind : (c : Cursor) → c .stage ≡ Cut → beforeBack c ≡ false → behindCutsAt (afterCut (c .cuts .left - 1) (c .groove .dwell)) ≡ true
+last-behind c stage h =
+    let none : c .cuts .left - 1 ≡ 0 = omega (arith, ltb-false 1 (c .cuts .left) (sym (ap (λ (s : Stage). beforeBackAt s (c .cuts .left)) stage) ∙ h)) in
+    ap (λ (n : ℕ). behindCutsAt (afterCut n (c .groove .dwell))) none ∙ either (ltb 0 (c .groove .dwell))
+  where
+    either : (b : Bool) → behindCutsAt (cond b Dwell Out) ≡ true
+    either true = refl
+    either false = refl
+
+pub dwell-next : (c : Cursor) → beforeDwell c ≡ true → c .stage ≡ Dwell
+dwell-next c e = go (c .stage) e
+  where
+    go : (s : Stage) → beforeDwellAt s ≡ true → s ≡ Dwell
+    go Cut e = absurd (never e)
+    go Back e = absurd (never e)
+    go Dwell e = refl
+    go Out e = absurd (never e)
+    go Across e = absurd (never e)
+    go Over e = absurd (never e)
+
+pub out-next : (c : Cursor) → behindCuts c ≡ true → beforeDwell c ≡ false → c .stage ≡ Out
+out-next c e d = go (c .stage) e d
+  where
+    go : (s : Stage) → behindCutsAt s ≡ true → beforeDwellAt s ≡ false → s ≡ Out
+    go Cut e d = absurd (never e)
+    go Back e d = absurd (never e)
+    go Dwell e d = absurd (never (sym d))
+    go Out e d = refl
+    go Across e d = absurd (never e)
+    go Over e d = absurd (never e)
+
+-- behind the way out: the way across, or nothing
+pub over-before-cut : (c : Cursor) → over c ≡ true → beforeCut c ≡ true
+over-before-cut c e = go (c .stage) e
+  where
+    go : (s : Stage) → overAt s ≡ true → beforeCutAt s ≡ true
+    go Cut e = absurd (never e)
+    go Back e = absurd (never e)
+    go Dwell e = absurd (never e)
+    go Out e = absurd (never e)
+    go Across e = absurd (never e)
+    go Over e = refl
+
+pub across-next : (c : Cursor) (b : Bool) → c .stage ≡ cond b Across Over → over c ≡ false → c .stage ≡ Across
+across-next c true e v = e
+across-next c false e v = absurd (never (sym v ∙ ap overAt e))

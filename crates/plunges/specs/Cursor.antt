@@ -60,6 +60,18 @@ overAt Over = true
 abbrev pub over : Cursor → Bool
 over c = overAt (c .stage)
 
+-- a cut comes next, or nothing
+abbrev pub beforeCutAt : Stage → Bool
+beforeCutAt Cut = true
+beforeCutAt Back = false
+beforeCutAt Dwell = false
+beforeCutAt Out = false
+beforeCutAt Across = false
+beforeCutAt Over = true
+
+abbrev pub beforeCut : Cursor → Bool
+beforeCut c = beforeCutAt (c .stage)
+
 -- a cut comes next, and a rapid back behind it, since another cut is left
 abbrev pub beforeBackAt : Stage → ℕ → Bool
 beforeBackAt Cut left = ltb 1 left
@@ -71,6 +83,30 @@ beforeBackAt Over left = false
 
 abbrev pub beforeBack : Cursor → Bool
 beforeBack c = beforeBackAt (c .stage) (c .cuts .left)
+
+-- the dwell comes next
+abbrev pub beforeDwellAt : Stage → Bool
+beforeDwellAt Cut = false
+beforeDwellAt Back = false
+beforeDwellAt Dwell = true
+beforeDwellAt Out = false
+beforeDwellAt Across = false
+beforeDwellAt Over = false
+
+abbrev pub beforeDwell : Cursor → Bool
+beforeDwell c = beforeDwellAt (c .stage)
+
+-- the cuts of a plunge are done: the dwell comes next, or the way out
+abbrev pub behindCutsAt : Stage → Bool
+behindCutsAt Cut = false
+behindCutsAt Back = false
+behindCutsAt Dwell = true
+behindCutsAt Out = true
+behindCutsAt Across = false
+behindCutsAt Over = false
+
+abbrev pub behindCuts : Cursor → Bool
+behindCuts c = behindCutsAt (c .stage)
 
 -- ---- what the contracts say
 -- the same plunge at another stage
@@ -111,8 +147,8 @@ pub record Makes (c : Cursor) (made : Record) (behind : Cursor) : Type 0 where
 abbrev pub cutRow : CutAndBack → List Record
 cutRow p = p .cut ∷ p .back ∷ []
 
--- both: the first of what is left, and a cursor that has the others, of which there are some
+-- both: the first of what is left, and a cursor that has the others, of which a cut comes next
 pub record MakesCut (c : Cursor) (p : CutAndBack) : Type 0 where
   pub first : restOf c ≡ cutRow p ++ restOf (p .rest)
   pub sound : Sound (p .rest)
-  pub more : over (p .rest) ≡ false
+  pub cut : p .rest .stage ≡ Cut

@@ -5,12 +5,12 @@ use grooving::groove::Groove;
 use moves::record::Record;
 use whole::signed::Side;
 ghost use mathlib.Core.Path.{_≡_};
-ghost use mathlib.Core.Bool.{true, false};
+ghost use mathlib.Core.Bool.{true, false, cond};
 ghost use Prim.Native.Nat.{_-_, _<_, _≤_};
 ghost use Rattle.division.specs.Carried.{rowOf};
 ghost use Rattle.grooving.specs.Grooving.{lengthOf, wrong, steps, cuts, deepAt, grooving};
-ghost use Rattle.plunges.specs.declared.cursor.Stage.the-variants.{Cut, Back, Dwell, Out, Across};
-ghost use Rattle.plunges.specs.Cursor.{restOf, over, beforeBack, at, afterCut, Sound, Makes, MakesCut};
+ghost use Rattle.plunges.specs.declared.cursor.Stage.the-variants.{Cut, Back, Dwell, Out, Across, Over};
+ghost use Rattle.plunges.specs.Cursor.{restOf, over, beforeCut, beforeBack, at, afterCut, Sound, Makes, MakesCut};
 
 // Which record comes next: a cut, the rapid back between two cuts, the dwell, the rapid out, the rapid to the next plunge or to the start, or none.
 pub enum Stage {
@@ -198,7 +198,7 @@ fn after_cut(left: u32, dwell: u32) -> Stage
 }
 
 // A cut, one piece deeper than the one before it.
-fn cut(c: Cursor) -> Handed
+pub fn cut(c: Cursor) -> Handed
     requires { ⌜ Sound c × (c .stage ≡ Cut) ⌝ }
     ensures { λ r. ⌜ Makes c (r .record) (r .rest) × (r .rest .stage ≡ afterCut (c .cuts .left - 1) (c .groove .dwell)) ⌝ }
 {
@@ -238,9 +238,9 @@ fn draw_back(c: Cursor) -> Handed
 }
 
 // "Then dwell if D4 is above 0"
-fn dwell(c: Cursor) -> Handed
+pub fn dwell(c: Cursor) -> Handed
     requires { ⌜ Sound c × (c .stage ≡ Dwell) ⌝ }
-    ensures { λ r. ⌜ Makes c (r .record) (r .rest) ⌝ }
+    ensures { λ r. ⌜ Makes c (r .record) (r .rest) × (r .rest .stage ≡ Out) ⌝ }
 {
     let groove = c.groove;
     let depth = groove.depth;
@@ -250,9 +250,9 @@ fn dwell(c: Cursor) -> Handed
 }
 
 // "rapid to start X"
-fn go_out(c: Cursor) -> Handed
+pub fn go_out(c: Cursor) -> Handed
     requires { ⌜ Sound c × (c .stage ≡ Out) ⌝ }
-    ensures { λ r. ⌜ Makes c (r .record) (r .rest) ⌝ }
+    ensures { λ r. ⌜ Makes c (r .record) (r .rest) × (r .rest .stage ≡ cond (c .several) Across Over) ⌝ }
 {
     let groove = c.groove;
     let depth = groove.depth;
@@ -266,9 +266,9 @@ fn go_out(c: Cursor) -> Handed
 }
 
 // "rapid to the next Z", or, behind the last plunge, "rapid to start Z at the end"
-fn go_across(c: Cursor) -> Handed
+pub fn go_across(c: Cursor) -> Handed
     requires { ⌜ Sound c × (c .stage ≡ Across) ⌝ }
-    ensures { λ r. ⌜ Makes c (r .record) (r .rest) ⌝ }
+    ensures { λ r. ⌜ Makes c (r .record) (r .rest) × (beforeCut (r .rest) ≡ true) ⌝ }
 {
     let steps = c.steps;
     if steps.left == 0 {
@@ -279,7 +279,7 @@ fn go_across(c: Cursor) -> Handed
 
 fn go_home(c: Cursor) -> Handed
     requires { ⌜ Sound c × (c .stage ≡ Across) × (c .steps .left ≡ 0) ⌝ }
-    ensures { λ r. ⌜ Makes c (r .record) (r .rest) ⌝ }
+    ensures { λ r. ⌜ Makes c (r .record) (r .rest) × (beforeCut (r .rest) ≡ true) ⌝ }
 {
     let groove = c.groove;
     let depth = groove.depth;
@@ -291,7 +291,7 @@ fn go_home(c: Cursor) -> Handed
 
 fn go_on(c: Cursor) -> Handed
     requires { ⌜ Sound c × (c .stage ≡ Across) × (0 < c .steps .left) ⌝ }
-    ensures { λ r. ⌜ Makes c (r .record) (r .rest) ⌝ }
+    ensures { λ r. ⌜ Makes c (r .record) (r .rest) × (beforeCut (r .rest) ≡ true) ⌝ }
 {
     let groove = c.groove;
     let plunge = c.plunge;
@@ -313,23 +313,7 @@ fn go_on(c: Cursor) -> Handed
     Handed { record, rest }
 }
 
-// Whether the next two records are a cut and the rapid back behind it.
-pub fn is_before_back(c: Cursor) -> bool
-    ensures { λ r. ⌜ r ≡ beforeBack c ⌝ }
-{
-    let stage = c.stage;
-    let cuts = c.cuts;
-    match stage {
-        Stage::Cut => 1 < cuts.left,
-        Stage::Back => false,
-        Stage::Dwell => false,
-        Stage::Out => false,
-        Stage::Across => false,
-        Stage::Over => false,
-    }
-}
-
-// These two records at once.
+// A cut and the rapid back behind it at once, where these are the next two records.
 pub fn next_cut(c: Cursor) -> CutAndBack
     requires { ⌜ Sound c × (beforeBack c ≡ true) ⌝ }
     ensures { λ r. ⌜ MakesCut c r ⌝ }

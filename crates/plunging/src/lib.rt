@@ -2,36 +2,91 @@
 use moves::record::Origin;
 use plunges::cursor::Cursor;
 ghost use mathlib.Core.Path.{_≡_};
-ghost use Prim.Native.Nat.{_+_, _*_, _≤_};
+ghost use mathlib.Core.Bool.{true, false};
+ghost use Prim.Native.Nat.{_+_, _*_, _<_, _≤_};
 ghost use lib.ListN.{length};
 ghost use Rattle.whole.specs.Bytes.{laid};
 ghost use Rattle.moves.specs.Form.{recordSize, rowFrom};
-ghost use Rattle.plunges.specs.Cursor.{restOf, Sound};
+ghost use Rattle.plunges.specs.declared.cursor.Stage.the-variants.{Cut, Out};
+ghost use Rattle.plunges.specs.Cursor.{restOf, beforeCut, beforeBack, behindCuts, Sound};
+ghost use Rattle.plunging.specs.Puts.{Puts};
 
-// The bytes of a cut and the rapid back behind it.
-const CUT_SIZE: usize = 2 * moves::RECORD_SIZE;
+const TWO_RECORDS: usize = 2 * moves::RECORD_SIZE;
 
-// Writes what is left of a groove, its next record's first byte at `first`, and answers the place behind its last.
+// What is left of a groove of which some records were written, and the place of the next.
+pub struct Put {
+    pub at: usize,
+    pub rest: Cursor,
+}
+
+// "Then dwell if D4 is above 0": of a plunge whose cuts are written.
+fn put_dwell(buf: &mut [u8], first: usize, c: Cursor, origin: Origin) -> Put
+    requires { ⌜ Sound c × (behindCuts c ≡ true) × (first + recordSize * length (restOf c) ≤ length (now buf)) ⌝ }
+    ensures { λ r. ⌜ Puts origin (now (buf .entry)) first c (now (buf .exit)) r × (r .rest .stage ≡ Out) ⌝ }
+{
+    if !plunges::before::is_before_dwell(c) {
+        return Put { at: first, rest: c };
+    }
+    let dwelling = plunges::cursor::dwell(c);
+    let record = dwelling.record;
+    let rest = dwelling.rest;
+    moves::list::put_record(&mut buf[first..], record, origin);
+    Put {
+        at: first + moves::RECORD_SIZE,
+        rest,
+    }
+}
+
+// Writes a plunge from its last cut on, and the rapid to the next plunge or to the start where one follows.
+fn put_end(buf: &mut [u8], first: usize, c: Cursor, origin: Origin) -> Put
+    requires { ⌜ Sound c × (c .stage ≡ Cut) × (beforeBack c ≡ false) × (first + recordSize * length (restOf c) ≤ length (now buf)) ⌝ }
+    ensures { λ r. ⌜ Puts origin (now (buf .entry)) first c (now (buf .exit)) r × (beforeCut (r .rest) ≡ true) × (length (restOf (r .rest)) < length (restOf c)) ⌝ }
+{
+    let last = plunges::cursor::cut(c);
+    let down = last.record;
+    let below = last.rest;
+    moves::list::put_record(&mut buf[first..], down, origin);
+    let rested = put_dwell(buf, first + moves::RECORD_SIZE, below, origin);
+    let at = rested.at;
+    let leaving = plunges::cursor::go_out(rested.rest);
+    let out = leaving.record;
+    let outside = leaving.rest;
+    moves::list::put_record(&mut buf[at..], out, origin);
+    if plunges::cursor::is_over(outside) {
+        return Put {
+            at: at + moves::RECORD_SIZE,
+            rest: outside,
+        };
+    }
+    let crossing = plunges::cursor::go_across(outside);
+    let across = crossing.record;
+    let rest = crossing.rest;
+    moves::list::put_record(&mut buf[at + moves::RECORD_SIZE..], across, origin);
+    Put {
+        at: at + TWO_RECORDS,
+        rest,
+    }
+}
+
+// Writes what is left of a groove of which a cut comes next, the first byte of its record at `first`, and answers the place behind the last.
 pub fn put_plunges(buf: &mut [u8], first: usize, c: Cursor, origin: Origin) -> usize
-    requires { ⌜ Sound c × (first + recordSize * length (restOf c) ≤ length (now buf)) ⌝ }
+    requires { ⌜ Sound c × (beforeCut c ≡ true) × (first + recordSize * length (restOf c) ≤ length (now buf)) ⌝ }
     ensures { λ r. ⌜ (r ≡ first + recordSize * length (restOf c)) × (now (buf .exit) ≡ laid (now (buf .entry)) first (rowFrom origin (restOf c))) ⌝ }
 {
     let mut left = c;
     let mut at = first;
     while !plunges::cursor::is_over(left) {
-        while plunges::cursor::is_before_back(left) {
+        while plunges::before::is_before_back(left) {
             let cutting = plunges::cursor::next_cut(left);
             let down = cutting.cut;
             let back = cutting.back;
             moves::list::put_two(&mut buf[at..], down, back, origin);
             left = cutting.rest;
-            at += CUT_SIZE;
+            at += TWO_RECORDS;
         }
-        let handed = plunges::cursor::next(left);
-        let record = handed.record;
-        moves::list::put_record(&mut buf[at..], record, origin);
-        left = handed.rest;
-        at += moves::RECORD_SIZE;
+        let end = put_end(buf, at, left, origin);
+        left = end.rest;
+        at = end.at;
     }
     at
 }

@@ -1,5 +1,5 @@
--- The cycles that are written with their cursor at hand: a turning cycle of which no pass is begun, and a groove.
-use mathlib.Core.Bool.{Bool, true, false}
+-- The cycles that are written with their cursor at hand: a turning cycle of which no pass is begun, and a groove of which a cut comes next, or nothing.
+use mathlib.Core.Bool.{Bool, false}
 use mathlib.Core.List.{List, []}
 use Rattle.moves.specs.declared.record.Record.{Record}
 use Rattle.turning.specs.Cursor as turn
@@ -11,7 +11,7 @@ use Rattle.stages.specs.declared.cursor.Due.the-variants.{Turning, Threading, G
 abbrev pub atHand : Due → Bool
 atHand (Turning c) = turn.beforePass c
 atHand (Threading c) = false
-atHand (Grooving c) = true
+atHand (Grooving c) = groove.beforeCut c
 atHand (Drilling c) = false
 atHand (Single k) = false
 

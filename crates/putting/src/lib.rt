@@ -5,6 +5,7 @@ use deeds::deed::Deed;
 use moves::record::Origin;
 use stages::cursor::Cursor;
 use stages::cursor::Due;
+use stages::cursor::Stage;
 use state::modal::State;
 ghost use mathlib.Core.Path.{_≡_};
 ghost use mathlib.Core.Bool.{true};
@@ -18,14 +19,14 @@ ghost use Rattle.writing.specs.Writes.{writes};
 ghost use Rattle.stages.specs.Cursor.{restOf, DueSound, Sound};
 ghost use Rattle.putting.specs.Cycles.{atHand, cycleRow};
 
-// Whether a cycle is due that is written with its cursor at hand: a turning cycle of which no pass is begun, or a groove.
+// Whether a cycle is due that is written with its cursor at hand: a turning cycle of which no pass is begun, or a groove of which a cut comes next.
 fn is_at_hand(due: Due) -> bool
     ensures { λ r. ⌜ r ≡ atHand due ⌝ }
 {
     match due {
         Due::Turning(c) => turning::cursor::is_before_pass(c),
         Due::Threading(_) => false,
-        Due::Grooving(_) => true,
+        Due::Grooving(c) => plunges::before::is_before_cut(c),
         Due::Drilling(_) => false,
         Due::Single(_) => false,
     }
@@ -46,8 +47,8 @@ fn put_cycle(buf: &mut [u8], first: usize, due: Due, origin: Origin) -> usize
     }
 }
 
-// Writes all that is left of a block, its next record's first byte at `first`: the one loop that writes, whatever the record. What is handed out knows nothing of its block: that is
-// put on here.
+// Writes all that is left of a block, its next record's first byte at `first`: the one loop that writes, whatever the record, and behind it, where a cycle is due whose cursor is at hand, that
+// cycle and M00 or M30. What is handed out knows nothing of its block: that is put on here.
 pub fn put_rest(buf: &mut [u8], first: usize, c: Cursor, origin: Origin)
     requires { ⌜ Sound (c .plan) (c .due) × (first + recordSize * length (restOf (c .plan) (c .due)) ≤ length (now buf)) ⌝ }
     ensures { λ _. ⌜ now (buf .exit) ≡ laid (now (buf .entry)) first (rowFrom origin (restOf (c .plan) (c .due))) ⌝ }
@@ -55,18 +56,20 @@ pub fn put_rest(buf: &mut [u8], first: usize, c: Cursor, origin: Origin)
     let plan = c.plan;
     let mut due = c.due;
     let mut at = first;
-    while !handing::is_over(plan, due) {
-        // the cursor at hand, so that it is not put into `due` and taken out of it for each record
-        if is_at_hand(due) {
-            at = put_cycle(buf, at, due, origin);
-            due = Due::Single(stages::cursor::stage_behind(plan.stops));
-            continue;
-        }
+    while !handing::is_over(plan, due) & !is_at_hand(due) {
         let handed = handing::next(plan, due);
         let record = handed.record;
         moves::list::put_record(&mut buf[at..], record, origin);
         due = handed.rest;
         at += moves::RECORD_SIZE;
+    }
+    // with the cursor at hand, so that it is not put into `due` and taken out of it for each record
+    if is_at_hand(due) {
+        let behind = put_cycle(buf, at, due, origin);
+        if plan.stops {
+            let stop = stages::cursor::single(plan, Stage::Stop);
+            moves::list::put_record(&mut buf[behind..], stop, origin);
+        }
     }
 }
 

@@ -11,7 +11,8 @@ use borrow.Rule.Slice.PartMut.{putMid}
 use Rattle.whole.proofs.Laying.{lent}
 use Rattle.moves.specs.declared.record.Record.{Record}
 use Rattle.moves.specs.Form.{recordSize, rowFrom}
-use Rattle.moves.proofs.Written.{Written, none-written, some-written, some-room, some-less, all-written, written-end, written-length}
+use Rattle.moves.specs.Written.{Written}
+use Rattle.moves.proofs.Written.{none-written, some-written, some-room, some-less, all-written, written-end, written-length}
 use Rattle.turning.specs.Cursor.{restOf, beforePass, Sound, passRow}
 use Rattle.turning.proofs.Cursors.{rest-none}
 use Rattle.passing.proofs.put_passes.Statement.{statement}

@@ -6,7 +6,6 @@ use mir.Facts.{toZ-ofZ}
 use borrow.Author.Needs.{needs, sfits-of}
 use Rattle.axes.specs.Goes.{rapidTo}
 use Rattle.plunges.specs.declared.cursor.Stage.the-variants.{Cut}
-use Rattle.plunges.specs.declared.cursor.Cursor.{Cursor}
 use Rattle.grooving.specs.Grooving.{deepAt}
 use Rattle.plunges.specs.Cursor.{restAt}
 use Rattle.plunges.proofs.Cursors.{is-ready, within}
@@ -24,12 +23,10 @@ returns c =
     let d = r .before .before in
     let s = d .before .before .before in
     let k = s .args .c in
-    let to = toZ-ofZ (sfits-of {w = w32} (d .deep-at .ok)) ∙ d .deep-at .ensures ∙ ap (deepAt (k .groove)) (d .before .drawn-back .ensures) in (
-      within k (s .pre .0) (s .pre .1) Cut (is-ready k (s .pre .0) (s .pre .1)) refl
-          (r .rapid-to .ensures ∙ λ i. rapidTo (k .groove .facing) (to i) (toZ-ofZ (width-held s) i))
-          (c .at-stage .ensures),
-      ap (λ (l : Cursor). l .stage) (c .at-stage .ensures),
-    )
+    let to = toZ-ofZ (sfits-of {w = w32} (d .deep-at .ok)) ∙ d .deep-at .ensures ∙ ap (deepAt (k .groove)) (d .before .drawn-back .ensures) in
+    within k (s .pre .0) (s .pre .1) Cut (is-ready k (s .pre .0) (s .pre .1)) refl
+    (r .rapid-to .ensures ∙ λ i. rapidTo (k .groove .facing) (to i) (toZ-ofZ (width-held s) i))
+    (c .at-stage .ensures)
 
 pub draw-back-spec : {M : Type 1} → statement M
 draw-back-spec =

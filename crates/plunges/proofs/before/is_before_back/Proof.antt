@@ -1,11 +1,11 @@
--- `plunges::cursor::is_before_back` meets its contract.
+-- `plunges::before::is_before_back` meets its contract.
 use mathlib.Core.Path.{_≡_, sym, ap}
 use borrow.Author.Needs.{needs}
 use Rattle.plunges.specs.declared.cursor.Stage.{Stage}
 use Rattle.plunges.specs.declared.cursor.Stage.the-variants.{Cut, Back, Dwell, Out, Across, Over}
 use Rattle.plunges.specs.Cursor.{beforeBackAt}
-use Rattle.plunges.proofs.cursor.is_before_back.Statement.{statement}
-use Rattle.plunges.proofs.cursor.is_before_back.Tie as tie
+use Rattle.plunges.proofs.before.is_before_back.Statement.{statement}
+use Rattle.plunges.proofs.before.is_before_back.Tie as tie
 
 pub is-before-back-spec : {M : Type 1} → statement M
 is-before-back-spec =
