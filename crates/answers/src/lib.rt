@@ -17,7 +17,7 @@ pub enum Answer {
 }
 
 // "A run begins at most 20,000 blocks"
-const BLOCKS_IN_ALL: u32 = 20_000;
+pub const BLOCKS_IN_ALL: u32 = 20_000;
 
 // "At the start: ..", with all blocks left to begin and no record written.
 pub fn start_of(set: Settings) -> Run

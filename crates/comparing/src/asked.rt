@@ -136,7 +136,7 @@ fn judge_asks(
     if !is_started(tape, table, settings, &mut places, state) {
         return Verdict::Differs(ANSWER_LINE);
     }
-    let count = (packed % 65_536) as usize;
+    let count = (packed % crate::SIXTEEN_BITS) as usize;
     let told = records_told(tape, table, settings, &places, state, list, count);
     if told < count {
         return Verdict::Differs(told + FIRST_RECORD_LINE);

@@ -16,6 +16,11 @@ const TEXT: usize = listing::lines::LONGEST_HEAD
 // The longest table of places that is lent.
 const PLACES: usize = reading::read::MOST_PLACES;
 
+// How the door packs its answer: a count and a place have 16 bits each, and the alarm the 8 above.
+pub const SIXTEEN_BITS: u64 = 65_536;
+
+const EIGHT_BITS: u64 = 256;
+
 fn listing_text() -> [u8; TEXT] {
     [0u8; TEXT]
 }
@@ -39,9 +44,9 @@ pub fn settings_of(given: &[i32; ALL]) -> [i32; settings::row::COUNT] {
 
 // The answer that the door has packed.
 pub fn unpacked(packed: u64) -> Answer {
-    let count = (packed % 65_536) as usize;
-    let place = (packed / 65_536 % 65_536) as usize;
-    let alarm = (packed / 4_294_967_296 % 256) as u8;
+    let count = (packed % SIXTEEN_BITS) as usize;
+    let place = (packed / SIXTEEN_BITS % SIXTEEN_BITS) as usize;
+    let alarm = (packed / SIXTEEN_BITS / SIXTEEN_BITS % EIGHT_BITS) as u8;
     if alarm == 0 {
         return Answer::Complete(count);
     }

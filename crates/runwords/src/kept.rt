@@ -10,9 +10,6 @@ ghost use lib.ListN.{length, getD};
 ghost use Rattle.ahead.specs.Ahead.{mostCalls};
 ghost use Rattle.paused.specs.Kept.{nobody, Waits, Answers, Kept};
 
-// "A run begins at most 20,000 blocks"
-const BLOCKS_IN_ALL: u32 = 20_000;
-
 // Whether each program that may wait has its line and the place to go on before the end of the tape.
 fn wait_within(waiting: [Waiting; crate::MOST_WAITING], end: usize) -> bool
     ensures sound { λ r. ⌜ (r ≡ true → (length waiting ≡ mostCalls) × ((k : ℕ) → k < mostCalls → Waits end (getD waiting k nobody))) ⌝ }
@@ -59,7 +56,7 @@ pub fn is_kept(g: Going) -> bool
     let here = frame.at <= g.end;
     let line = frame.program.line <= g.end;
     let calls = frame.calls_left <= ahead::MOST_CALLS;
-    let blocks = run.blocks_left <= BLOCKS_IN_ALL;
+    let blocks = run.blocks_left <= answers::BLOCKS_IN_ALL;
     let count = run.count <= moves::RECORD_LIMIT;
     let tape = g.end <= reading::read::LONGEST_TAPE;
     let filled = g.filled <= reading::read::LONGEST_TAPE;
