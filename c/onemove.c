@@ -1,5 +1,5 @@
-/* Reads a tape, from a file or from standard input, runs it one move at a time and prints each move as it comes and last the first line of the list, or the alarm: the same settings, the
-   same lines and the same status as `./listmoves`, which has that line in front. It holds no list and no record but the present one. Behind the last answer it asks twice more, and fails
+/* Reads a tape, from a file or from standard input, runs it one move at a time and prints each move as it comes and last the first line of the list, or the alarm: the same settings
+   and the same status as `./listmoves`; of a list the same lines, where `./listmoves` has that line in front, and of an alarm the moves before it too, where `./listmoves` has the alarm alone. It holds no list and no record but the present one. Behind the last answer it asks twice more, and fails
    where it is not repeated. c/compare builds it and compares the two. */
 #include <inttypes.h>
 #include <stdio.h>

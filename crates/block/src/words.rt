@@ -9,7 +9,7 @@ ghost use lib.ListN.{length};
 ghost use Rattle.addresses.specs.Words.{wordsFrom};
 ghost use Rattle.codes.specs.Codes.{gCode, mCode};
 ghost use Rattle.block.specs.Slots.{slots, mSlot, dSlot, gSlot, has, codeIn, gIn, mIn};
-ghost use Rattle.block.specs.Words.{longestLine, SlotIn, codeSlot, slotOf, noWords, isEnd, isProgramAddress, faultyRest, gather, headBy, headOf, startOf, StartIn, lineOf};
+ghost use Rattle.block.specs.Words.{longestLine, SlotIn, codeSlot, slotOf, noWords, isEnd, isProgramAddress, faultyRest, gather, headBy, startOf, StartIn, lineOf};
 
 // The slots of a block's words, and how many there are: X Z U W I K F S T, the groups of M, P and D by their indexes, L, and the groups of G.
 pub const SLOTS: usize = 42;
@@ -313,18 +313,6 @@ fn head_by(w: Word) -> Head
         b'%' | b'O' => Head::ProgramLine(number),
         b'N' => Head::BlockLine(number),
         _ => Head::Other(addresses::lacks_point(w)),
-    }
-}
-
-// How a line begins, by its first word alone; a line whose first word is faulty begins as a blank one.
-pub fn head_of(line: &[u8]) -> Head
-    ensures { λ r. ⌜ r ≡ headOf (now (line .entry)) ⌝ }
-{
-    let next = addresses::next_word(line, 0);
-    match next {
-        NextWord::Fault => Head::Blank,
-        NextWord::End => Head::Blank,
-        NextWord::Word(w, _) => head_by(w),
     }
 }
 

@@ -9,7 +9,7 @@ ghost use Rattle.moves.specs.Form.{recordSize};
 ghost use Rattle.stages.specs.declared.cursor.Due.the-variants.{Drilling};
 ghost use Rattle.cyclewords.specs.Sizes.{dueWords};
 ghost use Rattle.cyclewords.specs.Drilled.{drillingOf};
-ghost use Rattle.passhand.specs.Gives.{goesOn, Put, Gives};
+ghost use Rattle.passhand.specs.Gives.{hasNext, Put, Gives};
 
 // Puts the cycle into the words, or nothing where its block is over: where the cycle is, and M00 or M30 does not stand behind it. (01: "motion or dwell, then M00 or M30.")
 fn put_behind(due: &mut [u32], c: Cursor, stops: bool)
@@ -26,7 +26,7 @@ fn put_behind(due: &mut [u32], c: Cursor, stops: bool)
 // Lays the next record, and puts the cycle behind it into the words. Where the cycle has none left or cannot go on, nothing is done.
 pub fn give(due: &mut [u32], record: &mut [u8], origin: Origin, stops: bool) -> Gave
     requires { ⌜ (length (now due) ≡ dueWords) × (recordSize ≤ length (now «record»)) ⌝ }
-    ensures { λ r. ⌜ Gives (goesOn (Drilling (drillingOf (now (due .entry))))) (Drilling (drillingOf (now (due .entry)))) origin stops (now (due .entry)) (now («record» .entry)) r (now (due .exit)) (now («record» .exit)) ⌝ }
+    ensures { λ r. ⌜ Gives (hasNext (Drilling (drillingOf (now (due .entry))))) (Drilling (drillingOf (now (due .entry)))) origin stops (now (due .entry)) (now («record» .entry)) r (now (due .exit)) (now («record» .exit)) ⌝ }
 {
     let c = cyclewords::drilled::cursor_of(due);
     if bores::cursor::is_over(c) {

@@ -8,15 +8,16 @@ ghost use lib.ListN.{length};
 ghost use Rattle.moves.specs.Form.{recordSize};
 ghost use Rattle.cyclewords.specs.Sizes.{dueWords};
 ghost use Rattle.handwords.specs.Due.{slotOf};
-ghost use Rattle.passhand.specs.Gives.{goesOnIn, Gives};
+ghost use Rattle.passhand.specs.Gives.{hasNextIn, Gives};
 
 pub mod drilled;
 pub mod grooved;
 
-// Lays the next record of the cycle that is due, with the block that it came from, and puts the cycle behind it into the words. `stops` says whether M00 or M30 stands behind the cycle.
+// Lays the next record of the cycle that is due, with the block that it came from, and puts the cycle into the words as it stands behind that record; where no record is given nothing is done. `stops`
+// says whether M00 or M30 stands behind the cycle.
 pub fn give(due: &mut [u32], record: &mut [u8], origin: Origin, stops: bool) -> Gave
     requires { ⌜ (length (now due) ≡ dueWords) × (recordSize ≤ length (now «record»)) ⌝ }
-    ensures { λ r. ⌜ Gives (goesOnIn (now (due .entry))) (slotOf (now (due .entry))) origin stops (now (due .entry)) (now («record» .entry)) r (now (due .exit)) (now («record» .exit)) ⌝ }
+    ensures { λ r. ⌜ Gives (hasNextIn (now (due .entry))) (slotOf (now (due .entry))) origin stops (now (due .entry)) (now («record» .entry)) r (now (due .exit)) (now («record» .exit)) ⌝ }
 {
     if !handwords::is_deed(due) {
         return Gave::Other;

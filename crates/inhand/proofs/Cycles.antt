@@ -20,7 +20,7 @@ use Rattle.handwords.specs.Due.{isDeed, slotOf, dueBy}
 use Rattle.handwords.proofs.Slots.{deed-some, deed-due}
 use Rattle.passhand.specs.declared.Gave.{Gave}
 use Rattle.passhand.specs.declared.Gave.the-variants.{Given, Unfit, Other}
-use Rattle.passhand.specs.Gives.{isCycle, goesOn, goesOnIn, Holds, Laid, Gives}
+use Rattle.passhand.specs.Gives.{isCycle, hasNext, hasNextIn, Holds, Laid, Gives}
 use Rattle.planwords.specs.Plan.{planOf, originOf}
 use Rattle.inhand.specs.State.{stateWords, dueIn, planIn, isEmptyIn, GiveMeets}
 use Rattle.statewords.proofs.Puts.{nothing-put, due-is-put}
@@ -66,10 +66,10 @@ pub record Asked (w b : List ℕ) (r : Gave) (v c : List ℕ) : Type 0 where
   pub stops : Bool
   pub from : origin ≡ originOf (planIn w)
   pub stop : (d : Due) → stops ≡ planOf (planIn w) d .stops
-  pub told : Gives (goesOnIn (dueIn w)) (slotOf (dueIn w)) origin stops (dueIn w) b r v c
+  pub told : Gives (hasNextIn (dueIn w)) (slotOf (dueIn w)) origin stops (dueIn w) b r v c
 
-told-as : {w b : List ℕ} {r k : Gave} {v c : List ℕ} (a : Asked w b r v c) → r ≡ k → Gives (goesOnIn (dueIn w)) (slotOf (dueIn w)) (a .origin) (a .stops) (dueIn w) b k v c
-told-as {w} {b} {r} {k} {v} {c} a is = subst (λ (x : Gave). Gives (goesOnIn (dueIn w)) (slotOf (dueIn w)) (a .origin) (a .stops) (dueIn w) b x v c) is (a .told)
+told-as : {w b : List ℕ} {r k : Gave} {v c : List ℕ} (a : Asked w b r v c) → r ≡ k → Gives (hasNextIn (dueIn w)) (slotOf (dueIn w)) (a .origin) (a .stops) (dueIn w) b k v c
+told-as {w} {b} {r} {k} {v} {c} a is = subst (λ (x : Gave). Gives (hasNextIn (dueIn w)) (slotOf (dueIn w)) (a .origin) (a .stops) (dueIn w) b x v c) is (a .told)
 
 -- a record of a cycle was given
 module _ {w b : List ℕ} {r : Gave} {v c : List ℕ} (a : Asked w b r v c) (is : r ≡ Given) where
@@ -83,10 +83,10 @@ module _ {w b : List ℕ} {r : Gave} {v c : List ℕ} (a : Asked w b r v c) (is 
   got = told-as a is .2
 
   deed : isDeed (dueIn w) ≡ true
-  deed = both (isDeed (dueIn w)) (goesOn slot) (told-as a is .0) .0
+  deed = both (isDeed (dueIn w)) (hasNext slot) (told-as a is .0) .0
 
   cycle : isCycle slot ≡ true
-  cycle = both (isCycle slot) (not (cursor.cycleOver slot)) (both (isDeed (dueIn w)) (goesOn slot) (told-as a is .0) .1) .0
+  cycle = both (isCycle slot) (not (cursor.cycleOver slot)) (both (isDeed (dueIn w)) (hasNext slot) (told-as a is .0) .1) .0
 
   -- the cycle is what is due
   read : Read w slot slot plan (a .origin)

@@ -8,9 +8,9 @@ use Rattle.moves.specs.declared.record.Record.{Record}
 use Rattle.moves.specs.declared.record.Origin.{Origin}
 use Rattle.moves.specs.Form.{recordSize, rowFrom}
 
--- some of the row c is written from the place `first` on, as it came from the block o, `now` has the others, and the next is due at the place `at`
-pub record Written (o : Origin) (b₀ : List ℕ) (first : ℕ) (c : List Record) (b : List ℕ) (now : List Record) (at : ℕ) : Type 0 where
+-- some of the row is written from the place `first` on, as it came from the block o, `left` has the others, and the next is due at the place `at`
+pub record Written (o : Origin) (b₀ : List ℕ) (first : ℕ) (row : List Record) (b : List ℕ) (left : List Record) (at : ℕ) : Type 0 where
   pub done : List Record
-  pub same : c ≡ done ++ now
+  pub same : row ≡ done ++ left
   pub place : at ≡ first + recordSize * length done
   pub buffer : b ≡ laid b₀ first (rowFrom o done)

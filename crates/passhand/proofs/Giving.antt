@@ -20,7 +20,7 @@ use Rattle.cyclewords.specs.Sizes.{dueWords}
 use Rattle.handwords.specs.Due.{isEmpty, deeds, isDeed, slotOf}
 use Rattle.passhand.specs.declared.Gave.{Gave}
 use Rattle.passhand.specs.declared.Gave.the-variants.{Given, Unfit, Other}
-use Rattle.passhand.specs.Gives.{isCycle, goesOn, goesOnIn, Holds, Put, Gives}
+use Rattle.passhand.specs.Gives.{isCycle, hasNext, hasNextIn, Holds, Put, Gives}
 
 -- ---- the words behind a record
 -- words laid over all the others
@@ -46,35 +46,35 @@ put-some w x d l e is put tested first slot = put-as w x d l e is put tested (ap
 -- ---- the answer
 -- of a cycle e that was read as the cycle d of the words
 module _ {d e : Due} {t : Bool} (o : Origin) (stops : Bool) (w b : List ℕ) (same : e ≡ d) (cycle : isCycle e ≡ true) (is : t ≡ cycleOver e) where
-  goes : {over : Bool} → t ≡ over → goesOn e ≡ not over
+  goes : {over : Bool} → t ≡ over → hasNext e ≡ not over
   goes tested = λ i. cycle i && not ((sym is ∙ tested) i)
 
-  pub over-other : t ≡ true → Gives (goesOn d) d o stops w b Other w b
-  over-other tested = subst (λ (x : Due). Gives (goesOn x) x o stops w b Other w b) same (goes tested, refl, refl)
+  pub over-other : t ≡ true → Gives (hasNext d) d o stops w b Other w b
+  over-other tested = subst (λ (x : Due). Gives (hasNext x) x o stops w b Other w b) same (goes tested, refl, refl)
 
-  pub not-fit : {fit : Bool} → t ≡ false → Tells fit (DueSound e) → fit ≡ false → Gives (goesOn d) d o stops w b Unfit w b
-  not-fit tested tells failed = subst (λ (x : Due). Gives (goesOn x) x o stops w b Unfit w b) same (goes tested, told-no tells failed, refl, refl)
+  pub not-fit : {fit : Bool} → t ≡ false → Tells fit (DueSound e) → fit ≡ false → Gives (hasNext d) d o stops w b Unfit w b
+  not-fit tested tells failed = subst (λ (x : Due). Gives (hasNext x) x o stops w b Unfit w b) same (goes tested, told-no tells failed, refl, refl)
 
   pub given : {made : Record} {behind : Due} {v c : List ℕ} → t ≡ false → DueSound e → isCycle behind ≡ true → ((p : Plan) → Sound p e → Makes p e made behind)
-      → c ≡ laid b 0 (recordBytes (listed o made)) → Put stops behind v → Gives (goesOn d) d o stops w b Given v c
+      → c ≡ laid b 0 (recordBytes (listed o made)) → Put stops behind v → Gives (hasNext d) d o stops w b Given v c
   given {made} {behind} {v} {c} tested sound on makes bytes put =
       subst
-      (λ (x : Due). Gives (goesOn x) x o stops w b Given v c)
+      (λ (x : Due). Gives (hasNext x) x o stops w b Given v c)
       same
       (goes tested, sound, record { made = made; behind = behind; cycle = on; makes = makes; bytes = bytes; put = put })
 
 -- of the words
 module _ (o : Origin) (stops : Bool) (w b : List ℕ) where
-  pub no-deed : isDeed w ≡ false → Gives (goesOnIn w) (slotOf w) o stops w b Other w b
-  no-deed e = (ap (λ (x : Bool). x && goesOn (slotOf w)) e, refl, refl)
+  pub no-deed : isDeed w ≡ false → Gives (hasNextIn w) (slotOf w) o stops w b Other w b
+  no-deed e = (ap (λ (x : Bool). x && hasNext (slotOf w)) e, refl, refl)
 
   module _ (deed : isDeed w ≡ true) where
-    pub no-cycle : goesOn (slotOf w) ≡ false → Gives (goesOnIn w) (slotOf w) o stops w b Other w b
+    pub no-cycle : hasNext (slotOf w) ≡ false → Gives (hasNextIn w) (slotOf w) o stops w b Other w b
     no-cycle e = (λ i. deed i && e i, refl, refl)
 
-    pub by-slot : {d : Due} (r : Gave) (v c : List ℕ) → slotOf w ≡ d → Gives (goesOn d) d o stops w b r v c → Gives (goesOnIn w) (slotOf w) o stops w b r v c
+    pub by-slot : {d : Due} (r : Gave) (v c : List ℕ) → slotOf w ≡ d → Gives (hasNext d) d o stops w b r v c → Gives (hasNextIn w) (slotOf w) o stops w b r v c
     by-slot r v c is g =
         subst
-        (λ (x : Bool). Gives (x && goesOn (slotOf w)) (slotOf w) o stops w b r v c)
+        (λ (x : Bool). Gives (x && hasNext (slotOf w)) (slotOf w) o stops w b r v c)
         (sym deed)
-        (subst (λ (x : Due). Gives (goesOn x) x o stops w b r v c) (sym is) g)
+        (subst (λ (x : Due). Gives (hasNext x) x o stops w b r v c) (sym is) g)

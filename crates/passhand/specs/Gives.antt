@@ -25,15 +25,15 @@ isCycle (Grooving c) = true
 isCycle (Drilling c) = true
 isCycle (Single k) = false
 
-abbrev pub goesOn : Due → Bool
-goesOn d = isCycle d && not (cycleOver d)
+abbrev pub hasNext : Due → Bool
+hasNext d = isCycle d && not (cycleOver d)
 
 -- words in which such a cycle is due
-abbrev pub goesOnIn : List ℕ → Bool
-goesOnIn w = isDeed w && goesOn (slotOf w)
+abbrev pub hasNextIn : List ℕ → Bool
+hasNextIn w = isDeed w && hasNext (slotOf w)
 
 -- ---- what the contracts say
--- words that have what is due, or nothing where the block is over
+-- words that have what is due, or nothing where the block is over (true)
 abbrev pub Holds : Bool → Due → List ℕ → Type 0
 Holds true d v = isEmpty v ≡ true
 Holds false d v = (isDeed v ≡ true) × (slotOf v ≡ d)
@@ -43,7 +43,7 @@ pub record Put (stops : Bool) (d : Due) (v : List ℕ) : Type 0 where
   pub holds : Holds (cycleOver d && not stops) d v
   pub long : length v ≡ dueWords
 
--- a record was laid, the next of the cycle whatever its block's plan, and the cycle behind it was put
+-- a record was laid, the next of the cycle whatever its block's plan, and the cycle was put as it stands behind that record
 pub record Laid (d : Due) (o : Origin) (stops : Bool) (b v c : List ℕ) : Type 0 where
   pub made : Record
   pub behind : Due
@@ -52,7 +52,7 @@ pub record Laid (d : Due) (o : Origin) (stops : Bool) (b v c : List ℕ) : Type 
   pub bytes : c ≡ laid b 0 (recordBytes (listed o made))
   pub put : Put stops behind v
 
--- of a cycle d in words w, and whether it goes on: the answer, the words v and the bytes c. A record is laid where the cycle goes on and is sound; else nothing is done
+-- of a cycle d in words w, and whether it has a record left: the answer, the words v and the bytes c. A record is laid where one is left and the cycle is sound; else nothing is done
 abbrev pub Gives : Bool → Due → Origin → Bool → List ℕ → List ℕ → Gave → List ℕ → List ℕ → Type 0
 Gives goes d o stops w b Given v c = (goes ≡ true) × DueSound d × Laid d o stops b v c
 Gives goes d o stops w b Unfit v c = (goes ≡ true) × (DueSound d → ⊥) × (v ≡ w) × (c ≡ b)

@@ -1,4 +1,4 @@
-// A turning cycle is written a pass at a time, so that its cursor stays where it is from pass to pass. The room for all of it was asked for before (alarm 20).
+// A turning cycle is written a pass at a time by a loop of its own, in which its cursor is not one case of all that can be due. The room for all of it was asked for before (alarm 20).
 use moves::record::Origin;
 use turning::cursor::Cursor;
 ghost use mathlib.Core.Path.{_≡_};
@@ -14,7 +14,7 @@ const PASS_SIZE: usize = 4 * moves::RECORD_SIZE;
 
 const HALF_PASS: usize = 2 * moves::RECORD_SIZE;
 
-// Writes a turning cycle of which no pass is begun, its next record's first byte at `first`, and answers the place behind its last.
+// Writes what is left of a turning cycle of which the next record is the first of a pass, or none is left, that record's first byte at `first`, and answers the place behind the last.
 pub fn put_passes(buf: &mut [u8], first: usize, c: Cursor, origin: Origin) -> usize
     requires { ⌜ Sound c × (beforePass c ≡ true) × (first + recordSize * length (restOf c) ≤ length (now buf)) ⌝ }
     ensures { λ r. ⌜ (r ≡ first + recordSize * length (restOf c)) × (now (buf .exit) ≡ laid (now (buf .entry)) first (rowFrom origin (restOf c))) ⌝ }

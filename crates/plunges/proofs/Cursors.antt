@@ -28,7 +28,7 @@ use Rattle.plunges.specs.declared.cursor.Stage.the-variants.{Cut, Back, 
 use Rattle.plunges.specs.declared.cursor.Cursor.{Cursor}
 use Rattle.plunges.specs.declared.cursor.CutAndBack.{CutAndBack}
 use Rattle.grooving.specs.Grooving.{lengthOf, wrong, rest, steps, cuts, cutTo, outTo, deepAt, cutting, dwelling, plunge, plunges, afterFirst, grooving}
-use Rattle.plunges.specs.Cursor.{others, fromOut, restAt, restOf, overAt, over, beforeCutAt, beforeCut, beforeBackAt, beforeBack, beforeDwellAt, beforeDwell, behindCutsAt, behindCuts, at, afterCut, Ready, Sound, Makes, MakesCut}
+use Rattle.plunges.specs.Cursor.{others, fromOut, restAt, restOf, overAt, over, beforeCutAt, beforeCut, beforeCutAndBackAt, beforeCutAndBack, beforeDwellAt, beforeDwell, behindCutsAt, behindCuts, at, afterCut, Ready, Sound, Makes, MakesCut}
 use Rattle.grooving.proofs.Asked.{width-fits}
 use Rattle.grooving.proofs.Counts.{Stands}
 use Rattle.grooving.proofs.Rows.{some-cuts, cuts-length, cuts-sum, steps-sum}
@@ -281,7 +281,7 @@ unfolding restOf
 rest-none c e = none-at (c .stage) c e
 
 -- ---- a cut and the rapid back behind it
-cut-next : (s : Stage) (n : ℕ) → beforeBackAt s n ≡ true → (s ≡ Cut) × (1 < n)
+cut-next : (s : Stage) (n : ℕ) → beforeCutAndBackAt s n ≡ true → (s ≡ Cut) × (1 < n)
 cut-next Cut n e = (refl, ltb-true 1 n e)
 cut-next Back n e = absurd (never e)
 cut-next Dwell n e = absurd (never e)
@@ -289,7 +289,7 @@ cut-next Out n e = absurd (never e)
 cut-next Across n e = absurd (never e)
 cut-next Over n e = absurd (never e)
 
-pub cut-then-back : (c : Cursor) → beforeBack c ≡ true → (c .stage ≡ Cut) × (afterCut (c .cuts .left - 1) (c .groove .dwell) ≡ Back)
+pub cut-then-back : (c : Cursor) → beforeCutAndBack c ≡ true → (c .stage ≡ Cut) × (afterCut (c .cuts .left - 1) (c .groove .dwell) ≡ Back)
 cut-then-back c e =
     let h = cut-next (c .stage) (c .cuts .left) e in
     (h .0, ap (λ (b : Bool). cond b Back (cond (ltb 0 (c .groove .dwell)) Dwell Out)) (lt-ltb 0 (c .cuts .left - 1) (omega (arith, h .1))))
@@ -310,9 +310,9 @@ cut-next-is c e v = go (c .stage) e v
     go Over e v = absurd (never (sym v))
 
 -- behind a cut that no rapid back follows: the dwell, or the way out
-pub last-behind : (c : Cursor) → c .stage ≡ Cut → beforeBack c ≡ false → behindCutsAt (afterCut (c .cuts .left - 1) (c .groove .dwell)) ≡ true
+pub last-behind : (c : Cursor) → c .stage ≡ Cut → beforeCutAndBack c ≡ false → behindCutsAt (afterCut (c .cuts .left - 1) (c .groove .dwell)) ≡ true
 last-behind c stage h =
-    let none : c .cuts .left - 1 ≡ 0 = omega (arith, ltb-false 1 (c .cuts .left) (sym (ap (λ (s : Stage). beforeBackAt s (c .cuts .left)) stage) ∙ h)) in
+    let none : c .cuts .left - 1 ≡ 0 = omega (arith, ltb-false 1 (c .cuts .left) (sym (ap (λ (s : Stage). beforeCutAndBackAt s (c .cuts .left)) stage) ∙ h)) in
     ap (λ (n : ℕ). behindCutsAt (afterCut n (c .groove .dwell))) none ∙ either (ltb 0 (c .groove .dwell))
   where
     either : (b : Bool) → behindCutsAt (cond b Dwell Out) ≡ true

@@ -73,16 +73,16 @@ abbrev pub beforeCut : Cursor → Bool
 beforeCut c = beforeCutAt (c .stage)
 
 -- a cut comes next, and a rapid back behind it, since another cut is left
-abbrev pub beforeBackAt : Stage → ℕ → Bool
-beforeBackAt Cut left = ltb 1 left
-beforeBackAt Back left = false
-beforeBackAt Dwell left = false
-beforeBackAt Out left = false
-beforeBackAt Across left = false
-beforeBackAt Over left = false
+abbrev pub beforeCutAndBackAt : Stage → ℕ → Bool
+beforeCutAndBackAt Cut left = ltb 1 left
+beforeCutAndBackAt Back left = false
+beforeCutAndBackAt Dwell left = false
+beforeCutAndBackAt Out left = false
+beforeCutAndBackAt Across left = false
+beforeCutAndBackAt Over left = false
 
-abbrev pub beforeBack : Cursor → Bool
-beforeBack c = beforeBackAt (c .stage) (c .cuts .left)
+abbrev pub beforeCutAndBack : Cursor → Bool
+beforeCutAndBack c = beforeCutAndBackAt (c .stage) (c .cuts .left)
 
 -- the dwell comes next
 abbrev pub beforeDwellAt : Stage → Bool
@@ -127,7 +127,7 @@ Ready Out c = Unit {0}
 Ready Across c = Unit {0}
 Ready Over c = Unit {0}
 
--- what every cursor keeps: its cuts are those of the groove, no cut goes beyond the depth, and the last place across fits
+-- what every cursor keeps: `plunge` has the groove's cuts, no cut that is left of the present plunge goes beyond the depth, and the last place across fits
 pub record Sound (c : Cursor) : Type 0 where
   pub row : rowOf (c .plunge) ≡ cuts (c .groove)
   pub some : 0 < c .plunge .left
@@ -147,7 +147,7 @@ pub record Makes (c : Cursor) (made : Record) (behind : Cursor) : Type 0 where
 abbrev pub cutRow : CutAndBack → List Record
 cutRow p = p .cut ∷ p .back ∷ []
 
--- both: the first of what is left, and a cursor that has the others, of which a cut comes next
+-- both: the first two of what is left, and a cursor that has the others, of which a cut comes next
 pub record MakesCut (c : Cursor) (p : CutAndBack) : Type 0 where
   pub first : restOf c ≡ cutRow p ++ restOf (p .rest)
   pub sound : Sound (p .rest)

@@ -2,7 +2,7 @@
 use crate::cursor::Cursor;
 use crate::cursor::Stage;
 ghost use mathlib.Core.Path.{_≡_};
-ghost use Rattle.plunges.specs.Cursor.{beforeCut, beforeBack, beforeDwell};
+ghost use Rattle.plunges.specs.Cursor.{beforeCut, beforeCutAndBack, beforeDwell};
 
 // Whether a cut comes next, or nothing.
 pub fn is_before_cut(c: Cursor) -> bool
@@ -35,8 +35,8 @@ pub fn is_before_dwell(c: Cursor) -> bool
 }
 
 // Whether the next two records are a cut and the rapid back behind it.
-pub fn is_before_back(c: Cursor) -> bool
-    ensures { λ r. ⌜ r ≡ beforeBack c ⌝ }
+pub fn is_before_cut_and_back(c: Cursor) -> bool
+    ensures { λ r. ⌜ r ≡ beforeCutAndBack c ⌝ }
 {
     let stage = c.stage;
     let cuts = c.cuts;

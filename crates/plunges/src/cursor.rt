@@ -1,5 +1,5 @@
 // A groove that is opened: it hands out its records one after the other.
-// Each cut and each place across is made from the one before it and the next piece of its division; no plunge and no cut has a product or a quotient.
+// Each depth and each place across is made from the one before it and the next piece of its division; no plunge and no cut has a product or a quotient.
 use division::Pieces;
 use grooving::groove::Groove;
 use moves::record::Record;
@@ -10,7 +10,7 @@ ghost use Prim.Native.Nat.{_-_, _<_, _≤_};
 ghost use Rattle.division.specs.Carried.{rowOf};
 ghost use Rattle.grooving.specs.Grooving.{lengthOf, wrong, steps, cuts, deepAt, grooving};
 ghost use Rattle.plunges.specs.declared.cursor.Stage.the-variants.{Cut, Back, Dwell, Out, Across, Over};
-ghost use Rattle.plunges.specs.Cursor.{restOf, over, beforeCut, beforeBack, at, afterCut, Sound, Makes, MakesCut};
+ghost use Rattle.plunges.specs.Cursor.{restOf, over, beforeCut, beforeCutAndBack, at, afterCut, Sound, Makes, MakesCut};
 
 // Which record comes next: a cut, the rapid back between two cuts, the dwell, the rapid out, the rapid to the next plunge or to the start, or none.
 pub enum Stage {
@@ -125,7 +125,7 @@ pub fn next(c: Cursor) -> Handed
 }
 
 // The same, for a path that has grooves alone (`cyclehand`). The choice is written out once more so that either has one caller and becomes a part of it: as a function by itself it would keep its
-// numbers below the stack pointer, also where a list is written.
+// numbers below the stack pointer, also where a list is written, and an interrupt on the same stack would break them.
 pub fn next_alone(c: Cursor) -> Handed
     requires { ⌜ Sound c × (over c ≡ false) ⌝ }
     ensures { λ r. ⌜ Makes c (r .record) (r .rest) ⌝ }
@@ -289,6 +289,7 @@ fn go_home(c: Cursor) -> Handed
     Handed { record, rest }
 }
 
+// Behind another plunge there are several, whatever the flag was: the rapid to the start comes at the end.
 fn go_on(c: Cursor) -> Handed
     requires { ⌜ Sound c × (c .stage ≡ Across) × (0 < c .steps .left) ⌝ }
     ensures { λ r. ⌜ Makes c (r .record) (r .rest) × (beforeCut (r .rest) ≡ true) ⌝ }
@@ -315,7 +316,7 @@ fn go_on(c: Cursor) -> Handed
 
 // A cut and the rapid back behind it at once, where these are the next two records.
 pub fn next_cut(c: Cursor) -> CutAndBack
-    requires { ⌜ Sound c × (beforeBack c ≡ true) ⌝ }
+    requires { ⌜ Sound c × (beforeCutAndBack c ≡ true) ⌝ }
     ensures { λ r. ⌜ MakesCut c r ⌝ }
 {
     let first = cut(c);

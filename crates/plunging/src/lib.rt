@@ -1,4 +1,5 @@
-// A groove is written with its cursor at hand, and of each plunge the cuts that others follow two records at a time. The room for all of it was asked for before (alarm 20).
+// A groove is written by a loop of its own, in which its cursor is not one case of all that can be due, and each cut that another follows with its rapid back, two records at a time. The room for
+// all of it was asked for before (alarm 20).
 use moves::record::Origin;
 use plunges::cursor::Cursor;
 ghost use mathlib.Core.Path.{_≡_};
@@ -8,7 +9,7 @@ ghost use lib.ListN.{length};
 ghost use Rattle.whole.specs.Bytes.{laid};
 ghost use Rattle.moves.specs.Form.{recordSize, rowFrom};
 ghost use Rattle.plunges.specs.declared.cursor.Stage.the-variants.{Cut, Out};
-ghost use Rattle.plunges.specs.Cursor.{restOf, beforeCut, beforeBack, behindCuts, Sound};
+ghost use Rattle.plunges.specs.Cursor.{restOf, beforeCut, beforeCutAndBack, behindCuts, Sound};
 ghost use Rattle.plunging.specs.Puts.{Puts};
 
 const TWO_RECORDS: usize = 2 * moves::RECORD_SIZE;
@@ -39,7 +40,7 @@ fn put_dwell(buf: &mut [u8], first: usize, c: Cursor, origin: Origin) -> Put
 
 // Writes a plunge from its last cut on, and the rapid to the next plunge or to the start where one follows.
 fn put_end(buf: &mut [u8], first: usize, c: Cursor, origin: Origin) -> Put
-    requires { ⌜ Sound c × (c .stage ≡ Cut) × (beforeBack c ≡ false) × (first + recordSize * length (restOf c) ≤ length (now buf)) ⌝ }
+    requires { ⌜ Sound c × (c .stage ≡ Cut) × (beforeCutAndBack c ≡ false) × (first + recordSize * length (restOf c) ≤ length (now buf)) ⌝ }
     ensures { λ r. ⌜ Puts origin (now (buf .entry)) first c (now (buf .exit)) r × (beforeCut (r .rest) ≡ true) × (length (restOf (r .rest)) < length (restOf c)) ⌝ }
 {
     let last = plunges::cursor::cut(c);
@@ -68,7 +69,8 @@ fn put_end(buf: &mut [u8], first: usize, c: Cursor, origin: Origin) -> Put
     }
 }
 
-// Writes what is left of a groove of which a cut comes next, the first byte of its record at `first`, and answers the place behind the last.
+// Writes what is left of a groove of which a cut comes next, or nothing, the first byte of its record at `first`, and answers the place behind the last. (Two loops: with the inner one in a function
+// of its own the passes of a G84, which are compiled into the same function, would be dearer.)
 pub fn put_plunges(buf: &mut [u8], first: usize, c: Cursor, origin: Origin) -> usize
     requires { ⌜ Sound c × (beforeCut c ≡ true) × (first + recordSize * length (restOf c) ≤ length (now buf)) ⌝ }
     ensures { λ r. ⌜ (r ≡ first + recordSize * length (restOf c)) × (now (buf .exit) ≡ laid (now (buf .entry)) first (rowFrom origin (restOf c))) ⌝ }
@@ -76,7 +78,7 @@ pub fn put_plunges(buf: &mut [u8], first: usize, c: Cursor, origin: Origin) -> u
     let mut left = c;
     let mut at = first;
     while !plunges::cursor::is_over(left) {
-        while plunges::before::is_before_back(left) {
+        while plunges::before::is_before_cut_and_back(left) {
             let cutting = plunges::cursor::next_cut(left);
             let down = cutting.cut;
             let back = cutting.back;

@@ -1,4 +1,4 @@
--- A cycle that is due and is written with its cursor at hand.
+-- A cycle that is due and has a loop of its own.
 -- Assumes nothing.
 use mathlib.Core.Path.{_≡_, refl, sym, ap, subst, _∙_}
 use mathlib.Core.Bool.{Bool, true, false, false≢true}
@@ -18,7 +18,7 @@ use Rattle.stages.specs.declared.cursor.Stage.the-variants.{Stop}
 use Rattle.stages.specs.declared.cursor.Due.{Due}
 use Rattle.stages.specs.declared.cursor.Due.the-variants.{Turning, Threading, Grooving, Drilling, Single}
 use Rattle.stages.specs.declared.cursor.Plan.{Plan}
-use Rattle.putting.specs.Cycles.{atHand, cycleRow}
+use Rattle.putting.specs.Cycles.{hasOwnLoop, cycleRow}
 
 -- ---- what was written, of the cycle that was told
 abbrev Laid : Origin → List ℕ → ℕ → List Record → ℕ → List ℕ → Type 0
@@ -38,7 +38,7 @@ module _ (o : Origin) (b : List ℕ) (first : ℕ) (due : Due) where
 never : {A : Type 0} → false ≡ true → A
 never e = absurd (false≢true e)
 
-pub cycle-first : (p : Plan) (d : Due) → atHand d ≡ true → restOf p d ≡ cycleRow d ++ behindDeed p
+pub cycle-first : (p : Plan) (d : Due) → hasOwnLoop d ≡ true → restOf p d ≡ cycleRow d ++ behindDeed p
 unfolding restOf restFrom
 cycle-first p (Turning c) e = refl
 cycle-first p (Threading c) e = never e

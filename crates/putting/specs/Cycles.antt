@@ -1,4 +1,4 @@
--- The cycles that are written with their cursor at hand: a turning cycle of which no pass is begun, and a groove of which a cut comes next, or nothing.
+-- The cycles that are written by a loop of their own: a turning cycle of which the next record is the first of a pass, and a groove of which it is a cut; or either, of which none is left.
 use mathlib.Core.Bool.{Bool, false}
 use mathlib.Core.List.{List, []}
 use Rattle.moves.specs.declared.record.Record.{Record}
@@ -8,12 +8,12 @@ use Rattle.stages.specs.declared.cursor.Due.{Due}
 use Rattle.stages.specs.declared.cursor.Due.the-variants.{Turning, Threading, Grooving, Drilling, Single}
 
 -- whether such a cycle is due
-abbrev pub atHand : Due → Bool
-atHand (Turning c) = turn.beforePass c
-atHand (Threading c) = false
-atHand (Grooving c) = groove.beforeCut c
-atHand (Drilling c) = false
-atHand (Single k) = false
+abbrev pub hasOwnLoop : Due → Bool
+hasOwnLoop (Turning c) = turn.beforePass c
+hasOwnLoop (Threading c) = false
+hasOwnLoop (Grooving c) = groove.beforeCut c
+hasOwnLoop (Drilling c) = false
+hasOwnLoop (Single k) = false
 
 -- the records that are left of it
 abbrev pub cycleRow : Due → List Record

@@ -1,4 +1,4 @@
-// The records of a block are written: one loop asks the opened block (`handing`) for them. (01: "written into the room after the header".)
+// The records of a block are written: one loop asks the opened block (`handing`) for them, up to a G84 or a G86, which `passing` and `plunging` write. (01: "written into the room after the header".)
 // The room for all of them was asked for before (alarm 20).
 use block::words::Block;
 use deeds::deed::Deed;
@@ -17,11 +17,11 @@ ghost use Rattle.asking.specs.Judge.{doing};
 ghost use Rattle.deeds.specs.Known.{Right, Known};
 ghost use Rattle.writing.specs.Writes.{writes};
 ghost use Rattle.stages.specs.Cursor.{restOf, DueSound, Sound};
-ghost use Rattle.putting.specs.Cycles.{atHand, cycleRow};
+ghost use Rattle.putting.specs.Cycles.{hasOwnLoop, cycleRow};
 
-// Whether a cycle is due that is written with its cursor at hand: a turning cycle of which no pass is begun, or a groove of which a cut comes next.
-fn is_at_hand(due: Due) -> bool
-    ensures { λ r. ⌜ r ≡ atHand due ⌝ }
+// Whether a cycle is due that has a loop of its own: a turning cycle of which the next record is the first of a pass, or a groove of which it is a cut; or either, of which none is left.
+fn has_own_loop(due: Due) -> bool
+    ensures { λ r. ⌜ r ≡ hasOwnLoop due ⌝ }
 {
     match due {
         Due::Turning(c) => turning::cursor::is_before_pass(c),
@@ -34,7 +34,7 @@ fn is_at_hand(due: Due) -> bool
 
 // Writes such a cycle, its next record's first byte at `first`, and answers the place behind its last.
 fn put_cycle(buf: &mut [u8], first: usize, due: Due, origin: Origin) -> usize
-    requires { ⌜ DueSound due × (atHand due ≡ true) × (first + recordSize * length (cycleRow due) ≤ length (now buf)) ⌝ }
+    requires { ⌜ DueSound due × (hasOwnLoop due ≡ true) × (first + recordSize * length (cycleRow due) ≤ length (now buf)) ⌝ }
     ensures { λ r. ⌜ (r ≡ first + recordSize * length (cycleRow due)) × (now (buf .exit) ≡ laid (now (buf .entry)) first (rowFrom origin (cycleRow due))) ⌝ }
 {
     match due {
@@ -47,8 +47,8 @@ fn put_cycle(buf: &mut [u8], first: usize, due: Due, origin: Origin) -> usize
     }
 }
 
-// Writes all that is left of a block, its next record's first byte at `first`: the one loop that writes, whatever the record, and behind it, where a cycle is due whose cursor is at hand, that
-// cycle and M00 or M30. What is handed out knows nothing of its block: that is put on here.
+// Writes all that is left of a block, its next record's first byte at `first`: by the one loop, whatever the record, up to a cycle that has a loop of its own, and behind that loop the cycle and M00
+// or M30. What is handed out knows nothing of its block: that is put on where a record is written.
 pub fn put_rest(buf: &mut [u8], first: usize, c: Cursor, origin: Origin)
     requires { ⌜ Sound (c .plan) (c .due) × (first + recordSize * length (restOf (c .plan) (c .due)) ≤ length (now buf)) ⌝ }
     ensures { λ _. ⌜ now (buf .exit) ≡ laid (now (buf .entry)) first (rowFrom origin (restOf (c .plan) (c .due))) ⌝ }
@@ -56,15 +56,15 @@ pub fn put_rest(buf: &mut [u8], first: usize, c: Cursor, origin: Origin)
     let plan = c.plan;
     let mut due = c.due;
     let mut at = first;
-    while !handing::is_over(plan, due) & !is_at_hand(due) {
+    while !handing::is_over(plan, due) & !has_own_loop(due) {
         let handed = handing::next(plan, due);
         let record = handed.record;
         moves::list::put_record(&mut buf[at..], record, origin);
         due = handed.rest;
         at += moves::RECORD_SIZE;
     }
-    // with the cursor at hand, so that it is not put into `due` and taken out of it for each record
-    if is_at_hand(due) {
+    // by a loop of its own, so that its cursor is not put into `due` and taken out of it for each record
+    if has_own_loop(due) {
         let behind = put_cycle(buf, at, due, origin);
         if plan.stops {
             let stop = stages::cursor::single(plan, Stage::Stop);

@@ -125,7 +125,7 @@ DueSound (Grooving c) = groove.Sound c
 DueSound (Drilling c) = drill.Sound c
 DueSound (Single k) = Unit {0}
 
--- what is kept of a plan: its deed, which no record of a word before the deed follows
+-- what is kept of a plan: its deed is sound, and is not itself the record of a word before the deed
 pub record Planned (p : Plan) : Type 0 where
   pub deed : DueSound (p .deed)
   pub later : (l : List Record) → restFrom p l (p .deed) ≡ deedRow p

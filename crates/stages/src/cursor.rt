@@ -148,11 +148,11 @@ pub fn after(p: Plan, stage: Stage) -> Due
 }
 
 // What is due first.
-pub fn first_due(p: Plan, word: bool) -> Due
+pub fn first_due(p: Plan, has_speed: bool) -> Due
     requires { ⌜ Planned p ⌝ }
-    ensures { λ r. ⌜ Follows p (fromSpeed p word (deedRow p)) r ⌝ }
+    ensures { λ r. ⌜ Follows p (fromSpeed p «has_speed» (deedRow p)) r ⌝ }
 {
-    if word {
+    if has_speed {
         return Due::Single(Stage::Speed);
     }
     after_speed(p)

@@ -52,7 +52,7 @@ overAt Back c = false
 unfoldable pub over : Cursor → Bool
 over c = overAt (c .stage) c
 
--- no pass is begun
+-- the next record, if there is one, is the first of a pass
 abbrev pub beforeAt : Stage → Bool
 beforeAt In = true
 beforeAt Cut = false
@@ -81,7 +81,7 @@ pub record Makes (c : Cursor) (made : Record) (behind : Cursor) : Type 0 where
 abbrev pub passRow : Passed → List Record
 passRow p = p .inward ∷ p .along ∷ p .outward ∷ p .home ∷ []
 
--- a pass: the first of what is left, and a cursor that has the others and has begun no other pass
+-- a pass: the first four of what is left, and a cursor that has the others, of which the next is the first of a pass
 pub record MakesPass (c : Cursor) (p : Passed) : Type 0 where
   pub first : restOf c ≡ passRow p ++ restOf (p .rest)
   pub sound : Sound (p .rest)

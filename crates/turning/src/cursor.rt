@@ -20,7 +20,7 @@ pub enum Stage {
     Back,
 }
 
-// `line` is the line of the present pass, and before the first pass the start; `depths` are those of the passes that are left behind it.
+// `line` is the line of the present pass, between two passes that of the one before, and before the first pass the start; `depths` are those of the passes that are left behind it.
 pub struct Cursor {
     pub pass: Pass,
     pub side: Side,

@@ -1,4 +1,4 @@
-// A block that is opened by its words, alarms 13, 14, 10, 11 and 12, and then those of the block itself; and a step, which is taken so where the block is not told by its text.
+// A block that is opened by its words: alarms 13, 14, 10, 11 and 12, and then those of the block itself.
 use ahead::Frame;
 use ahead::Onward;
 use block::words::Block;
@@ -7,7 +7,6 @@ use finding::BlockAt;
 use moves::record::Origin;
 use settings::control::Settings;
 use state::modal::State;
-use taking::quiet::Met;
 use taking::step::Hand;
 use taking::step::Opened;
 use taking::step::Run;
@@ -118,7 +117,8 @@ fn open_going(
     Opened { done, hand }
 }
 
-// Opens the block of a line that was found, by its words, where so many records have room in all.
+// Opens the block of a line that was found, by its words, where so many records have room in all. The code looks in the first `count` entries of `places`, which may be any: that they are the tape's
+// own is needed for the step to be the one that is defined, and for nothing else.
 pub fn open_words(
     tape: &[u8],
     table: &[i32],
@@ -152,33 +152,5 @@ pub fn open_words(
             let origin = origin_of(frame, line);
             open_going(going, b, origin, onward, run, after)
         }
-    }
-}
-
-// Takes a step from the line at the frame's place on, where so many records have room in all. The code looks in the first `count` entries of `places`, which may be any: that they are the tape's
-// own is needed for the step to be the one that is defined, and for nothing else.
-pub fn open_step(
-    tape: &[u8],
-    table: &[i32],
-    set: Settings,
-    places: &[u64],
-    count: usize,
-    room: usize,
-    frame: Frame,
-    run: Run,
-) -> Opened
-    requires { ⌜ Able (now tape) (now table) set (now places) count room frame run ⌝ }
-    ensures { λ r. ⌜ OpenMeets (now (tape .entry)) (now (table .entry)) set (now (places .entry)) count room frame run r ⌝ }
-{
-    let met = taking::quiet::meet_block(tape, frame.at, run.blocks_left);
-    match met {
-        Met::Known(quiet) => {
-            let done = taking::quiet::do_quiet(places, count, set, frame, quiet, run);
-            Opened {
-                done,
-                hand: Hand::Nothing,
-            }
-        }
-        Met::Words(line) => open_words(tape, table, set, places, count, room, frame, line, run),
     }
 }

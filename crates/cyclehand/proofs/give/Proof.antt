@@ -5,7 +5,7 @@ use borrow.Author.Needs.{needs}
 use borrow.Author.Tests.{ne-eqb, not-true, not-false}
 use Rattle.handwords.specs.Due.{isDeed, slotOf}
 use Rattle.handwords.proofs.Slots.{slot-turning, slot-threading, slot-grooving, slot-drilling}
-use Rattle.passhand.specs.Gives.{goesOn}
+use Rattle.passhand.specs.Gives.{hasNext}
 use Rattle.passhand.proofs.Giving.{no-deed, no-cycle, by-slot}
 use Rattle.cyclehand.proofs.give.Statement.{statement}
 use Rattle.cyclehand.proofs.give.Tie as tie
@@ -54,7 +54,7 @@ returns-5 c =
     let a = start e .args in
     by-slot (a .origin) (a .stops) (a .due .now) (a .«record» .now) (deed e) (g .give4 .result) (g .give4 .last .0) (g .give4 .last .1 .0) (slot-drilling (a .due .now) (t .if5 .taken) refl) (g .give4 .ensures)
 
-single : (c : tie.Else5) → goesOn (slotOf (start (c .before .before .before .before .before) .args .due .now)) ≡ false
+single : (c : tie.Else5) → hasNext (slotOf (start (c .before .before .before .before .before) .args .due .now)) ≡ false
 unfolding slotOf
 single c =
     rw (

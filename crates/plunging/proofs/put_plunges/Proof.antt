@@ -53,7 +53,7 @@ loop2-holds c =
     (l .loop .inv .0, cut-next-is (l .loop .left) (l .loop .inv .1) (sym (c .before .is-over .ensures) ∙ not-true _ (c .if1 .taken)), none-written _ _ _ _)
 
 next-cut-requires : tie.Need-next-cut-requires Inv-loop2 μ-loop2 Inv-loop μ-loop
-next-cut-requires c κs = (c .before .before .loop2 .inv .0, sym (c .before .is-before-back .ensures) ∙ c .if2 .taken)
+next-cut-requires c κs = (c .before .before .loop2 .inv .0, sym (c .before .is-before-cut-and-back .ensures) ∙ c .if2 .taken)
 
 sub-put-two : tie.Need-sub-put-two Inv-loop2 μ-loop2 Inv-loop μ-loop
 sub-put-two c = omega (arith, has-two (c .before .before))
@@ -100,7 +100,7 @@ put-end-requires : tie.Need-put-end-requires Inv-loop2 μ-loop2 Inv-loop μ-loop
 put-end-requires c κs =
     let e = c .before in
     let l = e .before .before in
-    (l .loop2 .inv .0, l .loop2 .inv .1, sym (e .before .is-before-back .ensures) ∙ e .if2 .left, left-room (room-in l) (l .loop2 .inv .2))
+    (l .loop2 .inv .0, l .loop2 .inv .1, sym (e .before .is-before-cut-and-back .ensures) ∙ e .if2 .left, left-room (room-in l) (l .loop2 .inv .2))
 
 abbrev end-of : tie.After-left2 Inv-loop2 μ-loop2 Inv-loop μ-loop → tie.After-put-end Inv-loop2 μ-loop2 Inv-loop μ-loop
 end-of c = c .before .before .before

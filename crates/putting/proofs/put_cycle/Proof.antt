@@ -5,7 +5,7 @@ use Prim.Native.Nat.{_+_, _*_, _≤_}
 use lib.ListN.{length}
 use Rattle.moves.specs.Form.{recordSize}
 use Rattle.stages.specs.Cursor.{DueSound}
-use Rattle.putting.specs.Cycles.{atHand, cycleRow}
+use Rattle.putting.specs.Cycles.{hasOwnLoop, cycleRow}
 use Rattle.putting.proofs.Cycles.{told-laid, none-laid}
 use Rattle.putting.proofs.put_cycle.Statement.{statement}
 use Rattle.putting.proofs.put_cycle.Tie as tie
@@ -15,14 +15,14 @@ put-passes-requires c κs =
     let m = c .before .before in
     let s = m .before .before .before in
     let is = m .due .given .1 in
-    (subst DueSound is (s .pre .0), sym (ap atHand is) ∙ s .pre .1, subst (λ d. s .args .first + recordSize * length (cycleRow d) ≤ length (s .args .buf .now)) is (s .pre .2))
+    (subst DueSound is (s .pre .0), sym (ap hasOwnLoop is) ∙ s .pre .1, subst (λ d. s .args .first + recordSize * length (cycleRow d) ≤ length (s .args .buf .now)) is (s .pre .2))
 
 put-plunges-requires : tie.Need-put-plunges-requires
 put-plunges-requires c κs =
     let m = c .before .before in
     let s = m .before .before .before in
     let is = m .due2 .given .1 in
-    (subst DueSound is (s .pre .0), sym (ap atHand is) ∙ s .pre .1, subst (λ d. s .args .first + recordSize * length (cycleRow d) ≤ length (s .args .buf .now)) is (s .pre .2))
+    (subst DueSound is (s .pre .0), sym (ap hasOwnLoop is) ∙ s .pre .1, subst (λ d. s .args .first + recordSize * length (cycleRow d) ≤ length (s .args .buf .now)) is (s .pre .2))
 
 returns : tie.Need-returns
 returns c =

@@ -15,7 +15,7 @@ use Rattle.moves.specs.Written.{Written}
 use Rattle.moves.proofs.Written.{none-written, one-written, some-written, all-written, written-room, some-room, written-length, rest-less}
 use Rattle.stages.specs.Cursor.{restOf, behindDeed, Sound}
 use Rattle.handing.proofs.Cursors.{rest-none}
-use Rattle.putting.specs.Cycles.{atHand, cycleRow}
+use Rattle.putting.specs.Cycles.{hasOwnLoop, cycleRow}
 use Rattle.putting.proofs.Cycles.{cycle-first, stop-behind, none-behind}
 use Rattle.putting.proofs.put_rest.Statement.{statement}
 use Rattle.putting.proofs.put_rest.Tie as tie
@@ -44,12 +44,12 @@ has-room n =
     let l = loop-of n in
     written-room (l .before .before .before .pre .1) (l .loop .inv .1) (n .next .result .«record») _ (n .next .ensures .first)
 
--- ---- a cycle is due whose cursor is at hand
+-- ---- a cycle is due that has a loop of its own
 abbrev loop-by : tie.Then2 Inv-loop μ-loop → tie.At-loop Inv-loop μ-loop
 loop-by t = t .before .before .before .before .before
 
-at-hand : (t : tie.Then2 Inv-loop μ-loop) → atHand (loop-by t .loop .due) ≡ true
-at-hand t = sym (t .before .is-at-hand2 .ensures) ∙ t .if2 .taken
+own-loop : (t : tie.Then2 Inv-loop μ-loop) → hasOwnLoop (loop-by t .loop .due) ≡ true
+own-loop t = sym (t .before .has-own-loop2 .ensures) ∙ t .if2 .taken
 
 -- it is written
 abbrev told-by : tie.After-put-cycle Inv-loop μ-loop → tie.Then2 Inv-loop μ-loop
@@ -62,7 +62,7 @@ cycle-written q =
     let t = told-by q in
     let l = loop-by t in
     subst (Written _ _ _ _ _ _) (sym (q .put-cycle .ensures .0))
-    (some-written (l .before .before .before .pre .1) (l .loop .inv .1) (cycleRow (l .loop .due)) _ (cycle-first _ (l .loop .due) (at-hand t)) (q .put-cycle .ensures .1))
+    (some-written (l .before .before .before .pre .1) (l .loop .inv .1) (cycleRow (l .loop .due)) _ (cycle-first _ (l .loop .due) (own-loop t)) (q .put-cycle .ensures .1))
 
 -- and M00 or M30 has room behind it
 abbrev cycle-of : tie.After-single Inv-loop μ-loop → tie.After-put-cycle Inv-loop μ-loop
@@ -80,7 +80,7 @@ loop-holds c = (c .before .before .pre .0, none-written _ _ _ _)
 next-requires : tie.Need-next-requires Inv-loop μ-loop
 next-requires c κs =
     let o = c .before .before in
-    (o .before .loop .inv .0, sym (o .is-over .ensures) ∙ left-first (o .is-over .result) (c .before .is-at-hand .result) (c .if1 .taken))
+    (o .before .loop .inv .0, sym (o .is-over .ensures) ∙ left-first (o .is-over .result) (c .before .has-own-loop .result) (c .if1 .taken))
 
 sub-put-record : tie.Need-sub-put-record Inv-loop μ-loop
 sub-put-record c = omega (arith, has-room (c .before))
@@ -124,7 +124,7 @@ put-cycle-requires : tie.Need-put-cycle-requires Inv-loop μ-loop
 put-cycle-requires c κs =
     let t = c .before in
     let l = loop-by t in
-    let e = at-hand t in (
+    let e = own-loop t in (
       l .loop .inv .0 .due,
       e,
       some-room (l .before .before .before .pre .1) (l .loop .inv .1) (cycleRow (l .loop .due)) _ (cycle-first _ (l .loop .due) e),
@@ -142,7 +142,7 @@ part-put-record-end-2 c = let h = stop-room c in search needs
 put-record-requires-2 : tie.Need-put-record-requires-2 Inv-loop μ-loop
 put-record-requires-2 c κs = let h = stop-room (c .before) in search needs
 
--- ---- all is written: with M00 or M30, or nothing, behind the cycle; or with no cycle at hand
+-- ---- all is written: with M00 or M30, or nothing, behind the cycle; or with no such cycle
 stop-written : (c : tie.After-slice-known4 Inv-loop μ-loop)
     → (let p = c .before .before in let q = cycle-of (p .before .before) in let a = loop-by (told-by q) .before .before .before .args in let at = q .put-cycle .result in
     Written (a .origin) (a .buf .now) (a .first) (restOf (a .c .plan) (a .c .due)) (putMid at (length (q .put-cycle .last .0) - at) (q .put-cycle .last .0) (p .put-record2 .last .0)) [] (at + recordSize))
@@ -183,7 +183,7 @@ returns-3 c =
     let e = h .before in
     let o = e .before .before in
     let l = o .before in
-    let none = left-one (o .is-over .result) (e .before .is-at-hand .result) (e .if1 .left) (e .before .is-at-hand .ensures ∙ sym (h .is-at-hand2 .ensures) ∙ c .if2 .left) in
+    let none = left-one (o .is-over .result) (e .before .has-own-loop .result) (e .if1 .left) (e .before .has-own-loop .ensures ∙ sym (h .has-own-loop2 .ensures) ∙ c .if2 .left) in
     all-written (l .before .before .before .pre .1) (l .loop .inv .1) (rest-none _ (l .loop .due) (sym (o .is-over .ensures) ∙ none))
 
 pub put-rest-spec : {M : Type 1} → statement M

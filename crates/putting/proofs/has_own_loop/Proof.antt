@@ -1,16 +1,16 @@
--- `putting::is_at_hand` meets its contract.
+-- `putting::has_own_loop` meets its contract.
 use borrow.Author.Needs.{needs}
 use mathlib.Core.Path.{sym, ap, _∙_}
-use Rattle.putting.specs.Cycles.{atHand}
-use Rattle.putting.proofs.is_at_hand.Statement.{statement}
-use Rattle.putting.proofs.is_at_hand.Tie as tie
+use Rattle.putting.specs.Cycles.{hasOwnLoop}
+use Rattle.putting.proofs.has_own_loop.Statement.{statement}
+use Rattle.putting.proofs.has_own_loop.Tie as tie
 
 -- a groove
 returns-3 : tie.Need-returns-3
-returns-3 c = c .is-before-cut .ensures ∙ sym (ap atHand (c .before .before .due2 .given .1))
+returns-3 c = c .is-before-cut .ensures ∙ sym (ap hasOwnLoop (c .before .before .due2 .given .1))
 
-pub is-at-hand-spec : {M : Type 1} → statement M
-is-at-hand-spec =
+pub has-own-loop-spec : {M : Type 1} → statement M
+has-own-loop-spec =
     tie.close
     (tie.spec
     (λ c. search needs)
