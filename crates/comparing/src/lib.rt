@@ -5,9 +5,11 @@ pub mod asked;
 use answers::Answer;
 use stored::compare::Verdict;
 use stored::given::ALL;
+ghost use mathlib.Core.Path.{_≡_};
 ghost use Prim.Native.Nat.{_≤_};
 ghost use lib.ListN.{length};
 ghost use Rattle.stored.specs.Texts.{FromOne};
+ghost use Rattle.comparing.specs.Door.{settingsIn, answerTold};
 
 // The longest listing.
 const TEXT: usize = listing::lines::LONGEST_HEAD
@@ -26,7 +28,9 @@ fn listing_text() -> [u8; TEXT] {
 }
 
 // The settings in the order of the door.
-pub fn settings_of(given: &[i32; ALL]) -> [i32; settings::row::COUNT] {
+pub fn settings_of(given: &[i32; ALL]) -> [i32; settings::row::COUNT]
+    ensures { λ r. ⌜ r ≡ settingsIn (now (given .entry)) ⌝ }
+{
     [
         given[stored::given::MAIN],
         given[stored::given::LOWEST],
@@ -43,7 +47,9 @@ pub fn settings_of(given: &[i32; ALL]) -> [i32; settings::row::COUNT] {
 }
 
 // The answer that the door has packed.
-pub fn unpacked(packed: u64) -> Answer {
+pub fn unpacked(packed: u64) -> Answer
+    ensures { λ r. ⌜ r ≡ answerTold packed ⌝ }
+{
     let count = (packed % SIXTEEN_BITS) as usize;
     let place = (packed / SIXTEEN_BITS % SIXTEEN_BITS) as usize;
     let alarm = (packed / SIXTEEN_BITS / SIXTEEN_BITS % EIGHT_BITS) as u8;
