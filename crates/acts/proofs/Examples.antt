@@ -1,16 +1,15 @@
--- The numbers of 01, computed from the table: their groups and meanings, and what stands with a motion.
+-- The numbers of 01, computed from the table: their groups and meanings.
 -- Assumes nothing.
 use mathlib.Core.Path.{_≡_, refl}
 use mathlib.Core.Bool.{true, false}
 use mathlib.Core.List.{[], _∷_, map}
 use Prim.Native.Nat.{ℕ}
-use Rattle.acts.specs.declared.acting.Kept.the-variants as kept
-use Rattle.codes.specs.declared.meaning.Code.the-variants.{Of, Unknown}
-use Rattle.codes.specs.declared.meaning.Meaning.the-variants as means
-use Rattle.codes.specs.declared.meaning.Motion.the-variants as motion
+use Rattle.acts.specs.declared.Kept.the-variants as kept
+use Rattle.codes.specs.declared.Code.the-variants.{Of, Unknown}
+use Rattle.codes.specs.declared.Meaning.the-variants as means
+use Rattle.codes.specs.declared.Motion.the-variants as motion
 use Rattle.codes.specs.Codes.{gCode, mCode}
 use Rattle.acts.specs.Acting.{keep, motionBy, shiftBy, cuttingBy, revolutionBy, endsBy, returnsBy}
-use Rattle.acts.specs.Stands.{standsFreely, standsWith, standsBy, isTaken}
 
 -- "G54 and G55 call shifts 1 and 2, G57 to G59 shifts 3 to 5 (001); G53 and G56 cancel"
 pub shifts : map (λ (n : ℕ). shiftBy (gCode n) 9) (53 ∷ 54 ∷ 55 ∷ 56 ∷ 57 ∷ 58 ∷ 59 ∷ []) ≡ (0 ∷ 1 ∷ 2 ∷ 0 ∷ 3 ∷ 4 ∷ 5 ∷ [])
@@ -65,40 +64,3 @@ drills-stay = refl
 pub arcs-kept : map (λ (n : ℕ). keep (motionBy (gCode n) kept.Nothing) (kept.Of motion.Feed)) (2 ∷ 3 ∷ []) ≡ (kept.Of motion.Clockwise ∷ kept.Of motion.Counterclockwise ∷ [])
 unfolding gCode motionBy keep
 arcs-kept = refl
-
--- "I or K beside another group 0 word in 9": they may stand with G02 and G03, and where no such word stands
-pub with-centre : map (λ (n : ℕ). standsBy (gCode n) .centre) (0 ∷ 1 ∷ 2 ∷ 3 ∷ 33 ∷ 4 ∷ 84 ∷ 85 ∷ 86 ∷ 87 ∷ 88 ∷ 71 ∷ [])
-    ≡ (false ∷ false ∷ true ∷ true ∷ false ∷ false ∷ false ∷ false ∷ false ∷ false ∷ false ∷ true ∷ [])
-unfolding gCode standsBy standsWith standsFreely
-with-centre = refl
-
--- "D0 D2 D3 with G84; D3 D4 D5 with G86"
-pub with-g84 : map (isTaken (standsWith motion.Turning .takes)) (0 ∷ 1 ∷ 2 ∷ 3 ∷ 4 ∷ 5 ∷ []) ≡ (true ∷ false ∷ true ∷ true ∷ false ∷ false ∷ [])
-unfolding standsWith isTaken
-with-g84 = refl
-
-pub with-g86 : map (isTaken (standsWith motion.Grooving .takes)) (0 ∷ 1 ∷ 2 ∷ 3 ∷ 4 ∷ 5 ∷ []) ≡ (false ∷ false ∷ false ∷ true ∷ true ∷ true ∷ [])
-unfolding standsWith isTaken
-with-g86 = refl
-
--- 02, G85: "D words but D3 D4 D6 D7 .. in 9"
-pub with-g85 : map (isTaken (standsWith motion.Threading .takes)) (0 ∷ 1 ∷ 2 ∷ 3 ∷ 4 ∷ 5 ∷ 6 ∷ 7 ∷ 8 ∷ 9 ∷ [])
-    ≡ (false ∷ false ∷ false ∷ true ∷ true ∷ false ∷ true ∷ true ∷ false ∷ false ∷ [])
-unfolding standsWith isTaken
-with-g85 = refl
-
--- 02, G87 and G88: "D words but D3 to D6 in 9"
-pub with-g87 : map (isTaken (standsWith motion.ChipBreaking .takes)) (0 ∷ 1 ∷ 2 ∷ 3 ∷ 4 ∷ 5 ∷ 6 ∷ 7 ∷ 8 ∷ 9 ∷ [])
-    ≡ (false ∷ false ∷ false ∷ true ∷ true ∷ true ∷ true ∷ false ∷ false ∷ false ∷ [])
-unfolding standsWith isTaken
-with-g87 = refl
-
-pub with-g88 : standsWith motion.Redrawing ≡ standsWith motion.ChipBreaking
-unfolding standsWith
-with-g88 = refl
-
--- a motion that takes no D word
-pub with-g01 : map (isTaken (standsWith motion.Feed .takes)) (0 ∷ 1 ∷ 2 ∷ 3 ∷ 4 ∷ 5 ∷ 6 ∷ 7 ∷ 8 ∷ 9 ∷ [])
-    ≡ (false ∷ false ∷ false ∷ false ∷ false ∷ false ∷ false ∷ false ∷ false ∷ false ∷ [])
-unfolding standsWith isTaken
-with-g01 = refl

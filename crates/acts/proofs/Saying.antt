@@ -8,16 +8,16 @@ use Prim.Native.Nat.{ℕ}
 use native.Mathlib.Omega.{arith}
 use types.Run.{OneOf}
 use denote.Enum.Declared.{tagOf}
-use Rattle.codes.specs.declared.meaning.Code.the-variants as code
-use Rattle.codes.specs.declared.meaning.Flow.{Flow}
-use Rattle.codes.specs.declared.meaning.Flow.the-variants as flow
-use Rattle.codes.specs.declared.meaning.Meaning.{Meaning}
-use Rattle.codes.specs.declared.meaning.Meaning.the-variants as means
-use Rattle.codes.specs.declared.meaning.Motion.{Motion}
-use Rattle.acts.specs.declared.acting.Kept.{Kept}
-use Rattle.acts.specs.declared.acting.Kept.the-variants.{Of}
+use Rattle.codes.specs.declared.Code.the-variants as code
+use Rattle.codes.specs.declared.Flow.{Flow}
+use Rattle.codes.specs.declared.Flow.the-variants as flow
+use Rattle.codes.specs.declared.Meaning.{Meaning}
+use Rattle.codes.specs.declared.Meaning.the-variants as means
+use Rattle.codes.specs.declared.Motion.{Motion}
+use Rattle.acts.specs.declared.Kept.{Kept}
+use Rattle.acts.specs.declared.Kept.the-variants.{Of}
 use Rattle.acts.specs.Acting.{keep, motionBy, shiftBy, cuttingBy, revolutionBy, endsBy, returnsBy}
-use Rattle.codes.proofs.meaning.Meaning.{the-type}
+use Rattle.codes.proofs.Meaning.{the-type}
 
 pub no-motion : (g : ℕ) (m : Meaning) (before : Kept) → OneOf (1 ∷ 2 ∷ 3 ∷ 4 ∷ 5 ∷ 6 ∷ 7 ∷ 8 ∷ []) (tagOf the-type m) → before ≡ motionBy (code.Of g m) before
 unfolding motionBy

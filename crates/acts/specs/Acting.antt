@@ -2,13 +2,13 @@
 -- group, whether S is a cutting speed (G96), whether F is per revolution (G95); and whether an M number ends the run or returns.
 use mathlib.Core.Bool.{Bool, true, false}
 use Prim.Native.Nat.{ℕ}
-use Rattle.codes.specs.declared.meaning.Code.{Code}
-use Rattle.codes.specs.declared.meaning.Code.the-variants as code
-use Rattle.codes.specs.declared.meaning.Meaning.the-variants as means
-use Rattle.codes.specs.declared.meaning.Motion.the-variants as motion
-use Rattle.codes.specs.declared.meaning.Flow.the-variants as flow
-use Rattle.acts.specs.declared.acting.Kept.{Kept}
-use Rattle.acts.specs.declared.acting.Kept.the-variants.{Nothing, Of}
+use Rattle.codes.specs.declared.Code.{Code}
+use Rattle.codes.specs.declared.Code.the-variants as code
+use Rattle.codes.specs.declared.Meaning.the-variants as means
+use Rattle.codes.specs.declared.Motion.the-variants as motion
+use Rattle.codes.specs.declared.Flow.the-variants as flow
+use Rattle.acts.specs.declared.Kept.{Kept}
+use Rattle.acts.specs.declared.Kept.the-variants.{Nothing, Of}
 
 -- "00 01 33 (kept) and 04 84 86 (that block only; the kept one stays)"; G85, G87 and G88 go with G84 and G86; 02: "G02 and G03 are kept"
 unfoldable pub keep : Kept → Kept → Kept

@@ -190,5 +190,5 @@ pub fn lacks_point(w: Word) -> bool
     if !asked {
         return false;
     }
-    whole::signed::magnitude(w.value) != 0
+    whole::magnitude(w.value) != 0
 }

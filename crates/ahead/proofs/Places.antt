@@ -14,14 +14,14 @@ use Rattle.tape.specs.Lines.{Text, lineAt, linesUp, lines}
 use Rattle.numbers.proofs.Bounds.{cond-ind}
 use Rattle.block.specs.Words.{headOf}
 use Rattle.settings.specs.Wrong.{highestSubroutine}
-use Rattle.settings.specs.declared.control.Settings.{Settings}
+use Rattle.settings.specs.declared.Settings.{Settings}
 use Rattle.finding.specs.Finding.{Sought, Program, Block, AnyBlock, hereOf, foundBy, seekLine, findProgram, firstBlock, blockOfProgram}
 use Rattle.finding.specs.declared.Here.{Here}
 use Rattle.finding.specs.declared.Here.the-variants as here
 use Rattle.places.specs.declared.Found.{Found}
 use Rattle.places.specs.declared.Found.the-variants.{At, Nowhere}
-use Rattle.state.specs.declared.request.Request.{Request}
-use Rattle.state.specs.declared.request.Request.the-variants as next
+use Rattle.requests.specs.declared.Request.{Request}
+use Rattle.requests.specs.declared.Request.the-variants as next
 use Rattle.finding.specs.Finds.{Finds}
 use Rattle.ahead.specs.Ahead.{mostCalls, calledAt, jumpedTo, lookedBy, lookedUp, lookedUpIn, LooksUp, FoundAt}
 use Rattle.ahead.specs.declared.ProgramAt.{ProgramAt}

@@ -8,13 +8,13 @@ use lib.Dec.{ltb, eqb}
 use Rattle.alarms.specs.Numbers.{programMissing, blockMissing, tooDeep, wrongEnd}
 use Rattle.tape.specs.Lines.{lines}
 use Rattle.settings.specs.Wrong.{highestSubroutine}
-use Rattle.settings.specs.declared.control.Settings.{Settings}
+use Rattle.settings.specs.declared.Settings.{Settings}
 use Rattle.finding.specs.Finding.{findProgram, blockOfProgram}
 use Rattle.places.specs.Places.{programIn, blockIn}
 use Rattle.places.specs.declared.Found.{Found}
 use Rattle.places.specs.declared.Found.the-variants.{At, Nowhere}
-use Rattle.state.specs.declared.request.Request.{Request}
-use Rattle.state.specs.declared.request.Request.the-variants as next
+use Rattle.requests.specs.declared.Request.{Request}
+use Rattle.requests.specs.declared.Request.the-variants as next
 use Rattle.ahead.specs.declared.ProgramAt.{ProgramAt}
 use Rattle.ahead.specs.declared.Frame.{Frame}
 use Rattle.ahead.specs.declared.Onward.{Onward}

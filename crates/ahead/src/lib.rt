@@ -1,7 +1,7 @@
 // What lies ahead of a block: the places that a call or a jump asks for.
 use places::Found;
-use settings::control::Settings;
-use state::request::Request;
+use requests::Request;
+use settings::Settings;
 ghost use mathlib.Core.Path.{_≡_};
 ghost use Prim.Native.Nat.{_≤_};
 ghost use lib.ListN.{length, take};
@@ -70,7 +70,7 @@ pub fn look_up(places: &[u64], count: usize, set: Settings, frame: Frame, next: 
     match next {
         Request::On => Onward::On,
         Request::Call(n, times) => {
-            if (n < set.lowest_subroutine) | (settings::control::HIGHEST_SUBROUTINE < n) {
+            if (n < set.lowest_subroutine) | (settings::HIGHEST_SUBROUTINE < n) {
                 return Onward::Stop(alarms::PROGRAM_MISSING, frame.at);
             }
             let found = places::find_program(places, count, n);

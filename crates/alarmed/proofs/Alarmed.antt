@@ -15,15 +15,15 @@ use Rattle.tape.specs.Lines.{seek, opensTape}
 use Rattle.block.specs.Slots.{anyOf}
 use Rattle.reading.specs.Reading.{nothingRead}
 use Rattle.reading.specs.Filling.{nothingFilled, readWith}
-use Rattle.reading.specs.declared.read.Read.{Read}
-use Rattle.reading.specs.declared.read.Read.the-variants as read
+use Rattle.reading.specs.declared.Read.{Read}
+use Rattle.reading.specs.declared.Read.the-variants as read
 use Rattle.places.specs.declared.Found.{Found}
 use Rattle.places.specs.declared.Found.the-variants.{At, Nowhere}
 use Rattle.ahead.specs.Ahead.{mostCalls}
 use Rattle.taking.specs.Steps.{Task}
 use Rattle.runners.specs.Runs.{Ran, programRun}
-use Rattle.runners.specs.declared.run.Ending.{Ending}
-use Rattle.runners.specs.declared.run.Ending.the-variants.{Returned, Ended, Stopped}
+use Rattle.runners.specs.declared.Ending.{Ending}
+use Rattle.runners.specs.declared.Ending.the-variants.{Returned, Ended, Stopped}
 use Rattle.answers.specs.Answers.{answerBy, startOf}
 use Rattle.answers.specs.declared.Answer.the-variants.{Alarm}
 use Rattle.interpreter.specs.Answers.{Result, refused, resultOf, mainAt, mainBy, mainRun, readThen, longestTape, interpretationBy, interpretation}

@@ -8,15 +8,15 @@ use lib.Dec.{leb, ltb, eqb}
 use lib.ListN.{length}
 use borrow.Author.Tests.{lt-ltb, le-ltb, ltb-true, ltb-false, eq-eqb, ne-eqb, le-leb, lt-leb}
 use Rattle.alarms.specs.Numbers.{programMissing, blockMissing, tooDeep, tooManyBegun, wrongEnd, noMotion, notRapid, badFeed, outsideLimits, badLengths, noRoom}
-use Rattle.moves.specs.declared.record.Record.{Record}
+use Rattle.moves.specs.declared.Record.{Record}
 use Rattle.settings.specs.Wrong.{highestSubroutine}
 use Rattle.settings.specs.Limits.{outside}
-use Rattle.settings.specs.declared.limits.Limits.{Limits}
+use Rattle.settings.specs.declared.Limits.{Limits}
 use Rattle.tape.specs.Lines.{lines}
-use Rattle.codes.specs.declared.meaning.Motion.the-variants as motion
-use Rattle.acts.specs.declared.acting.Kept.{Kept}
-use Rattle.acts.specs.declared.acting.Kept.the-variants as kept
-use Rattle.block.specs.declared.words.Block.{Block}
+use Rattle.codes.specs.declared.Motion.the-variants as motion
+use Rattle.acts.specs.declared.Kept.{Kept}
+use Rattle.acts.specs.declared.Kept.the-variants as kept
+use Rattle.block.specs.declared.Block.{Block}
 use Rattle.finding.specs.Finding.{findProgram, blockOfProgram}
 use Rattle.places.specs.declared.Found.{Found}
 use Rattle.places.specs.declared.Found.the-variants.{At, Nowhere}
@@ -27,12 +27,12 @@ use Rattle.cycles.specs.Cycle as cycle
 use Rattle.cycles.specs.Feeds.{leastOfFeed}
 use Rattle.cycles.specs.declared.Cycle as cycles
 use Rattle.state.specs.Modal.{settled, blockMotion}
-use Rattle.state.specs.Request.{requestOf}
-use Rattle.state.specs.declared.request.Request.{Request}
-use Rattle.state.specs.declared.request.Request.the-variants as asks
+use Rattle.requests.specs.Request.{requestOf}
+use Rattle.requests.specs.declared.Request.{Request}
+use Rattle.requests.specs.declared.Request.the-variants as asks
 use Rattle.deeds.specs.Deed.{hasPath, hasCentre, straightIf, roundOf, roundIf, moveOf, deedOf}
-use Rattle.deeds.specs.declared.deed.Deed.{Deed}
-use Rattle.deeds.specs.declared.deed.Deed.the-variants.{Nothing, Nowhere as Aimless, Dwell, Straight, Round, Cycle}
+use Rattle.deeds.specs.declared.Deed.{Deed}
+use Rattle.deeds.specs.declared.Deed.the-variants.{Nothing, Nowhere as Aimless, Dwell, Straight, Round, Cycle}
 use Rattle.scaling.specs.declared.Sending.{Sending}
 use Rattle.asking.specs.Judge.{refused as refusedCycle, ofRecords, asksOf, feedWrong, roomWrong, alarmOf, doing}
 use Rattle.asking.specs.declared.Asked.{Asked}
@@ -46,7 +46,7 @@ use Rattle.ahead.specs.declared.ProgramAt.{ProgramAt}
 use Rattle.ahead.specs.declared.Onward.{Onward}
 use Rattle.ahead.specs.declared.Onward.the-variants.{On, Call, Jump, Return, End, Stop}
 use Rattle.taking.specs.Steps.{Task, blockOn, onwardBy, alarmBy, alarmAt}
-use Rattle.taking.specs.declared.step.Run.{Run}
+use Rattle.taking.specs.declared.Run.{Run}
 use Rattle.alarmed.specs.Order.{Passes, Refused}
 use Rattle.alarmed.specs.Tests.{Begun, noneLeft, endsBadly, endBad, nowhere, calls, callBad, jumps, jumpBad, deepens, callDeep, isNone, isStraight, lacksMotion, motionless, otherTraverse, rapidMissing, leastFeed, feedBad, wrongLengths, lengthsBad, goesOutside, outsideBad, recordsOf, overfull, blockOrder}
 use Rattle.alarmed.proofs.Orders.{first, Above, passes, refused}

@@ -11,17 +11,17 @@ use borrow.Author.Tests.{eqb-true, eqb-false, eq-eqb, ne-eqb}
 use Rattle.alarms.specs.Numbers.{badByteOrNumber, badLineStart, lineTooLong, missingPoint, wordRules, placesTooShort}
 use Rattle.tape.specs.Lines.{Text}
 use Rattle.block.specs.Words.{longestLine, lineOf}
-use Rattle.block.specs.declared.words.Block.{Block}
-use Rattle.block.specs.declared.words.Head.{Head}
-use Rattle.block.specs.declared.words.Head.the-variants.{Blank, ProgramLine, BlockLine, Other}
-use Rattle.block.specs.declared.words.ReadLine.{ReadLine}
-use Rattle.rules.specs.Rules.{brokenBy, lacksBy, refusedLine, judged}
-use Rattle.rules.specs.declared.judge.Judged.{Judged}
+use Rattle.block.specs.declared.Block.{Block}
+use Rattle.block.specs.declared.Head.{Head}
+use Rattle.block.specs.declared.Head.the-variants.{Blank, ProgramLine, BlockLine, Other}
+use Rattle.block.specs.declared.ReadLine.{ReadLine}
+use Rattle.showing.specs.Showing.{brokenBy, lacksBy, refusedLine, judged}
+use Rattle.showing.specs.declared.Judged.{Judged}
 use Rattle.reading.specs.Reading.{History, headAlarm, lineAlarm, noted, endsWith}
 use Rattle.reading.specs.Filling.{Filled, filed, roomAlarm, alarmWith, Readings, readLinesWith}
 use Rattle.places.proofs.Rows.{inserted-length}
-use Rattle.reading.specs.declared.read.Read.{Read}
-use Rattle.reading.specs.declared.read.Read.the-variants.{Whole, Alarm}
+use Rattle.reading.specs.declared.Read.{Read}
+use Rattle.reading.specs.declared.Read.the-variants.{Whole, Alarm}
 use Rattle.alarmed.specs.Order.{Passes, Refused}
 use Rattle.alarmed.specs.Tests.{Input, overlong, unreadable, pointMissing, startsBadly, startBad, rulesBroken, isEntry, tableFull, lineOrder}
 use Rattle.alarmed.specs.Alarmed.{Sofar, asLine, with, isLast, Accepted, none, one, Reached}

@@ -15,11 +15,11 @@ use Rattle.ahead.specs.declared.ProgramAt.{ProgramAt}
 use Rattle.ahead.specs.declared.Onward.{Onward}
 use Rattle.ahead.specs.declared.Onward.the-variants.{On, Call, Jump, Return, End, Stop}
 use Rattle.taking.specs.Steps.{Task, Step, blockOn, onwardOf, alarmAt, runAfter, recordsAt, originAt, Taken, takenBy, takenFrom}
-use Rattle.taking.specs.declared.step.Run.{Run}
+use Rattle.taking.specs.declared.Run.{Run}
 use Rattle.taking.proofs.Stepping.{some-left}
 use Rattle.runners.specs.Runs.{Ran, pre, goBack, andThen, goOn, onward, blocks, enough, repeated, called, entry}
-use Rattle.runners.specs.declared.run.Ending.{Ending}
-use Rattle.runners.specs.declared.run.Ending.the-variants.{Returned, Ended, Stopped}
+use Rattle.runners.specs.declared.Ending.{Ending}
+use Rattle.runners.specs.declared.Ending.the-variants.{Returned, Ended, Stopped}
 use Rattle.demands.proofs.Linked.{free-asked, done-free, done-alarm, records-free}
 use Rattle.alarmed.specs.Walking.{stepAt}
 

@@ -14,19 +14,19 @@ use Rattle.settings.specs.Wrong.{highestSubroutine}
 use Rattle.finding.specs.Finding.{findProgram, blockOfProgram}
 use Rattle.places.specs.declared.Found.{Found}
 use Rattle.places.specs.declared.Found.the-variants.{At, Nowhere}
-use Rattle.state.specs.Request.{requestOf}
-use Rattle.state.specs.declared.request.Request.{Request}
-use Rattle.state.specs.declared.request.Request.the-variants as asks
+use Rattle.requests.specs.Request.{requestOf}
+use Rattle.requests.specs.declared.Request.{Request}
+use Rattle.requests.specs.declared.Request.the-variants as asks
 use Rattle.ahead.specs.Ahead.{mostCalls, onto, calledAt, jumpedTo, lookedBy, lookedUp}
 use Rattle.ahead.specs.declared.Frame.{Frame}
 use Rattle.ahead.specs.declared.ProgramAt.{ProgramAt}
 use Rattle.ahead.specs.declared.Onward.{Onward}
 use Rattle.ahead.specs.declared.Onward.the-variants.{On, Call, Jump, Return, End, Stop}
 use Rattle.taking.specs.Steps.{Task, Step, blockOn, onwardBy, onwardOf, alarmBy, alarmAt, runAfter}
-use Rattle.taking.specs.declared.step.Run.{Run}
+use Rattle.taking.specs.declared.Run.{Run}
 use Rattle.runners.specs.Runs.{Ran, pre, goBack, andThen, goOn, onward, blocks, blocksInAll, enough, repeated, called, entry, programRun}
-use Rattle.runners.specs.declared.run.Ending.{Ending}
-use Rattle.runners.specs.declared.run.Ending.the-variants.{Returned, Ended, Stopped}
+use Rattle.runners.specs.declared.Ending.{Ending}
+use Rattle.runners.specs.declared.Ending.the-variants.{Returned, Ended, Stopped}
 use Rattle.demands.proofs.Linked.{free-asked}
 use Rattle.alarmed.specs.Walking.{Open, opened, moved, runs, jumped, called as walksInto, goesOn, Standing, standing, stepAt, Walk, stay, step, RunRefused, block, early}
 use Rattle.alarmed.proofs.Blocks.{block-passes, block-refused}

@@ -6,9 +6,9 @@ use Rattle.ahead.specs.declared.Frame.{Frame}
 use Rattle.ahead.specs.declared.ProgramAt.{ProgramAt}
 use Rattle.ahead.specs.declared.Onward.the-variants.{Call}
 use Rattle.taking.specs.Steps.{Task, onwardOf}
-use Rattle.taking.specs.declared.step.Run.{Run}
+use Rattle.taking.specs.declared.Run.{Run}
 use Rattle.runners.specs.Runs.{blocks, called, programRun}
-use Rattle.runners.specs.declared.run.Ending.the-variants.{Returned}
+use Rattle.runners.specs.declared.Ending.the-variants.{Returned}
 
 -- a program with ten calls left never comes back: M17 in the main program is alarm 14
 abbrev pub NeverReturns : Type 0

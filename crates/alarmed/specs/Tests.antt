@@ -9,21 +9,21 @@ use lib.ListN.{length}
 use Rattle.alarms.specs.Numbers.{badSettings, tapeTooLong, bufferTooShort, noProgram, badByteOrNumber, badLineStart, lineTooLong, missingPoint, wordRules, placesTooShort, programMissing, blockMissing, tooDeep, tooManyBegun, wrongEnd, noMotion, notRapid, badFeed, outsideLimits, badLengths, noRoom}
 use Rattle.whole.specs.Among.{among}
 use Rattle.moves.specs.Form.{headerSize}
-use Rattle.moves.specs.declared.record.Record.{Record}
+use Rattle.moves.specs.declared.Record.{Record}
 use Rattle.settings.specs.Wrong.{settingsWrong, highestProgram, highestSubroutine}
 use Rattle.settings.specs.Limits.{outside}
-use Rattle.settings.specs.declared.control.Settings.{Settings}
-use Rattle.settings.specs.declared.limits.Limits.{Limits}
+use Rattle.settings.specs.declared.Settings.{Settings}
+use Rattle.settings.specs.declared.Limits.{Limits}
 use Rattle.tape.specs.Lines.{opensTape, lines}
-use Rattle.codes.specs.declared.meaning.Motion.the-variants as motion
-use Rattle.acts.specs.declared.acting.Kept.{Kept}
-use Rattle.acts.specs.declared.acting.Kept.the-variants as kept
+use Rattle.codes.specs.declared.Motion.the-variants as motion
+use Rattle.acts.specs.declared.Kept.{Kept}
+use Rattle.acts.specs.declared.Kept.the-variants as kept
 use Rattle.block.specs.Slots.{anyOf}
 use Rattle.block.specs.Words.{longestLine, lineOf}
-use Rattle.block.specs.declared.words.Block.{Block}
-use Rattle.block.specs.declared.words.Head.{Head}
-use Rattle.block.specs.declared.words.Head.the-variants.{Blank, ProgramLine, BlockLine, Other}
-use Rattle.rules.specs.Rules.{brokenBy, lacksBy}
+use Rattle.block.specs.declared.Block.{Block}
+use Rattle.block.specs.declared.Head.{Head}
+use Rattle.block.specs.declared.Head.the-variants.{Blank, ProgramLine, BlockLine, Other}
+use Rattle.showing.specs.Showing.{brokenBy, lacksBy}
 use Rattle.reading.specs.Reading.{longestTape, History}
 use Rattle.finding.specs.Finding.{findProgram, blockOfProgram}
 use Rattle.places.specs.declared.Found.{Found}
@@ -34,19 +34,19 @@ use Rattle.straying.specs.Straying.{straying}
 use Rattle.cycles.specs.Cycle as cycle
 use Rattle.cycles.specs.Feeds.{leastOfFeed}
 use Rattle.state.specs.Modal.{settled, blockMotion}
-use Rattle.state.specs.Request.{requestOf}
-use Rattle.state.specs.declared.modal.State.{State}
-use Rattle.state.specs.declared.request.Request.{Request}
-use Rattle.state.specs.declared.request.Request.the-variants as asks
+use Rattle.requests.specs.Request.{requestOf}
+use Rattle.state.specs.declared.State.{State}
+use Rattle.requests.specs.declared.Request.{Request}
+use Rattle.requests.specs.declared.Request.the-variants as asks
 use Rattle.deeds.specs.Deed.{hasPath, hasCentre}
-use Rattle.deeds.specs.declared.deed.Deed.{Deed}
-use Rattle.deeds.specs.declared.deed.Deed.the-variants.{Nothing, Nowhere as Aimless, Dwell, Straight, Round, Cycle}
+use Rattle.deeds.specs.declared.Deed.{Deed}
+use Rattle.deeds.specs.declared.Deed.the-variants.{Nothing, Nowhere as Aimless, Dwell, Straight, Round, Cycle}
 use Rattle.asking.specs.Judge.{feedWrong}
 use Rattle.verdicts.specs.Verdicts.{deedIn}
 use Rattle.machine.specs.Blocks.{doneRecords}
 use Rattle.ahead.specs.Ahead.{mostCalls}
 use Rattle.taking.specs.Steps.{Task, blockOn}
-use Rattle.taking.specs.declared.step.Run.{Run}
+use Rattle.taking.specs.declared.Run.{Run}
 use Rattle.alarmed.specs.Order.{Row, row}
 
 -- ---- 1 TO 4, of what the interpreter is given; the last two: the length of the table of places, and that of the buffer

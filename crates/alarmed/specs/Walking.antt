@@ -9,13 +9,13 @@ use Rattle.tape.specs.Lines.{lineAt, lines}
 use Rattle.finding.specs.Finding.{findProgram, firstBlock, blockOfProgram, blockNumberAt}
 use Rattle.places.specs.declared.Found.{Found}
 use Rattle.places.specs.declared.Found.the-variants.{At, Nowhere}
-use Rattle.state.specs.Request.{requestOf}
-use Rattle.state.specs.declared.request.Request.{Request}
-use Rattle.state.specs.declared.request.Request.the-variants.{On, Call, Jump, Return, End}
+use Rattle.requests.specs.Request.{requestOf}
+use Rattle.requests.specs.declared.Request.{Request}
+use Rattle.requests.specs.declared.Request.the-variants.{On, Call, Jump, Return, End}
 use Rattle.machine.specs.Blocks.{doneRecords}
 use Rattle.taking.specs.Steps.{Task, Step, blockOn, runAfter}
 use Rattle.ahead.specs.declared.ProgramAt.{ProgramAt}
-use Rattle.taking.specs.declared.step.Run.{Run}
+use Rattle.taking.specs.declared.Run.{Run}
 use Rattle.alarmed.specs.Order.{Passes, Refused}
 use Rattle.alarmed.specs.Tests.{Begun, blockOrder}
 

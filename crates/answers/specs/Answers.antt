@@ -1,15 +1,15 @@
 -- AN ANSWER. 01: "An alarm answers with number, place and records written." "The header is written only when the run succeeds."
 use mathlib.Core.List.{List}
 use Prim.Native.Nat.{ℕ}
-use Rattle.whole.specs.Bytes.{laid}
+use Rattle.octets.specs.Bytes.{laid}
 use Rattle.alarms.specs.Numbers.{wrongEnd}
 use Rattle.moves.specs.Form.{headerBytes}
-use Rattle.settings.specs.declared.control.Settings.{Settings}
+use Rattle.settings.specs.declared.Settings.{Settings}
 use Rattle.state.specs.Modal.{atStart}
-use Rattle.taking.specs.declared.step.Run.{Run}
+use Rattle.taking.specs.declared.Run.{Run}
 use Rattle.runners.specs.Runs.{blocksInAll}
-use Rattle.runners.specs.declared.run.Ending.{Ending}
-use Rattle.runners.specs.declared.run.Ending.the-variants.{Returned, Ended, Stopped}
+use Rattle.runners.specs.declared.Ending.{Ending}
+use Rattle.runners.specs.declared.Ending.the-variants.{Returned, Ended, Stopped}
 use Rattle.answers.specs.declared.Answer.{Answer}
 use Rattle.answers.specs.declared.Answer.the-variants.{Complete, Alarm}
 

@@ -1,8 +1,8 @@
 // What the interpreter answers: a complete list, or an alarm with its number and place; and where a run begins and ends.
 // (01: "An alarm answers with number, place and records written"; "The header is written only when the run succeeds".)
-use runners::run::Ending;
-use settings::control::Settings;
-use taking::step::Run;
+use runners::Ending;
+use settings::Settings;
+use taking::Run;
 ghost use mathlib.Core.Path.{_≡_};
 ghost use Prim.Native.Nat.{_≤_};
 ghost use lib.ListN.{length};
@@ -24,7 +24,7 @@ pub fn start_of(set: Settings) -> Run
     ensures { λ r. ⌜ r ≡ startOf set ⌝ }
 {
     Run {
-        state: state::modal::at_start(set.x, set.z),
+        state: state::at_start(set.x, set.z),
         blocks_left: BLOCKS_IN_ALL,
         count: 0,
     }

@@ -12,15 +12,15 @@ use Rattle.whole.specs.Position.{tableLeast, tableGreatest, inTable}
 use Rattle.whole.proofs.Integers.{whole, abs, add-in, sub-in, up-mul, down-mul}
 use Rattle.whole.proofs.Positions.{InTable, in-range}
 use Rattle.settings.specs.Known.{SpanIn}
-use Rattle.settings.specs.declared.limits.Limits.{Limits}
-use Rattle.moves.specs.declared.record.Record.{Record}
+use Rattle.settings.specs.declared.Limits.{Limits}
+use Rattle.moves.specs.declared.Record.{Record}
 use Rattle.moves.specs.Form.{AllFitting}
 use Rattle.moves.specs.Kinds.{clockwiseKind, counterclockwiseKind, isCentre}
 use Rattle.moves.specs.Last.{lastOf}
 use Rattle.moves.proofs.Last.{Moves, after-move}
-use Rattle.arrows.specs.declared.arrow.Spot.{Spot}
-use Rattle.arcs.specs.declared.arc.Arc.{Arc}
-use Rattle.arcs.specs.declared.arc.CentreWords.{CentreWords}
+use Rattle.arrows.specs.declared.Spot.{Spot}
+use Rattle.arcs.specs.declared.Arc.{Arc}
+use Rattle.arcs.specs.declared.CentreWords.{CentreWords}
 use Rattle.arcs.specs.Arcs.{arcOf, endRecord, centreRecord, arcRecords}
 use Rattle.arcs.specs.Known.{targetReach, startReach, endReach, InReach, LimitsInReach, Central}
 

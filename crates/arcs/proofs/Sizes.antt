@@ -5,8 +5,8 @@ use native.Mathlib.Omega.{arith}
 use native.Mathlib.Nat.{mul-le-mul}
 use lib.IntN.{ℤ, pos, natAbs, _-ℤ_}
 use Rattle.whole.proofs.Integers.{abs-mul}
-use Rattle.arrows.specs.declared.arrow.Arrow.{Arrow}
-use Rattle.arcs.specs.declared.arc.Arc.{Arc}
+use Rattle.arrows.specs.declared.Arrow.{Arrow}
+use Rattle.arcs.specs.declared.Arc.{Arc}
 use Rattle.arrows.specs.Arrows.{arrow, square}
 use Rattle.arcs.specs.Arcs.{startOf, endOf}
 use Rattle.arrows.specs.Known.{greatestPart, startSquare, endSquare, Sized}

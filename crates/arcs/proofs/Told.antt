@@ -5,7 +5,7 @@ use mathlib.Core.Bool.{Bool, true, false, cond, not, _&&_}
 use Prim.Native.Nat.{ℕ}
 use lib.Dec.{eqb}
 use Rattle.moves.specs.Kinds.{clockwiseKind, counterclockwiseKind, centreKind, isArc, inTurn}
-use Rattle.arcs.specs.declared.arc.Arc.{Arc}
+use Rattle.arcs.specs.declared.Arc.{Arc}
 use Rattle.arcs.specs.Arcs.{endRecord, centreRecord, arcRecords}
 use Rattle.arcs.specs.Told.{toldBy, paired}
 

@@ -6,13 +6,13 @@ use mathlib.Core.List.{List, [], _∷_}
 use Prim.Native.Nat.{ℕ}
 use lib.Dec.{eqb}
 use lib.IntN.{pos, _+ℤ_, _*ℤ_}
-use Rattle.moves.specs.declared.record.Record.{Record}
+use Rattle.moves.specs.declared.Record.{Record}
 use Rattle.moves.specs.Kinds.{arc, centre}
-use Rattle.arrows.specs.declared.arrow.Spot.{Spot}
-use Rattle.arrows.specs.declared.arrow.Arrow.{Arrow}
+use Rattle.arrows.specs.declared.Spot.{Spot}
+use Rattle.arrows.specs.declared.Arrow.{Arrow}
 use Rattle.arrows.specs.Arrows.{arrow, square, exceeds}
-use Rattle.arcs.specs.declared.arc.Arc.{Arc}
-use Rattle.arcs.specs.declared.arc.CentreWords.{CentreWords}
+use Rattle.arcs.specs.declared.Arc.{Arc}
+use Rattle.arcs.specs.declared.CentreWords.{CentreWords}
 
 -- the arc that a block gives: from where the axes stand to where the block sends them, I and K from the start to the centre, "per side", so that I counts twice on the diameter
 unfoldable pub arcOf : Bool → Spot → Spot → CentreWords → Arc

@@ -4,10 +4,10 @@ use mathlib.Core.Bool.{true}
 use Prim.Native.Nat.{ℕ, _≤_}
 use lib.IntN.{natAbs, _-ℤ_}
 use Rattle.whole.specs.Position.{inTable}
-use Rattle.settings.specs.declared.limits.Limits.{Limits}
-use Rattle.arrows.specs.declared.arrow.Spot.{Spot}
-use Rattle.arcs.specs.declared.arc.Arc.{Arc}
-use Rattle.arcs.specs.declared.arc.CentreWords.{CentreWords}
+use Rattle.settings.specs.declared.Limits.{Limits}
+use Rattle.arrows.specs.declared.Spot.{Spot}
+use Rattle.arcs.specs.declared.Arc.{Arc}
+use Rattle.arcs.specs.declared.CentreWords.{CentreWords}
 
 -- no block sends an axis so far
 abbrev pub targetReach : ℕ

@@ -3,9 +3,9 @@ use mathlib.Core.Bool.{Bool, not, _&&_}
 use mathlib.Core.List.{List, [], _∷_}
 use lib.Dec.{eqb}
 use lib.IntN.{ℤ}
-use Rattle.moves.specs.declared.record.Record.{Record}
+use Rattle.moves.specs.declared.Record.{Record}
 use Rattle.moves.specs.Kinds.{clockwiseKind, isArc, inTurn}
-use Rattle.arcs.specs.declared.arc.Arc.{Arc}
+use Rattle.arcs.specs.declared.Arc.{Arc}
 
 -- the arc from x, z that two records tell: the first its direction, kind 8 is clockwise, and its end, the second its centre
 unfoldable pub toldBy : ℤ → ℤ → Record → Record → Arc

@@ -4,7 +4,7 @@ use mathlib.Core.Path.{_≡_, refl}
 use mathlib.Core.Bool.{true, false}
 use lib.IntN.{pos}
 use Rattle.whole.specs.Signed.{minus}
-use Rattle.arrows.specs.declared.arrow.Arrow.{Arrow}
+use Rattle.arrows.specs.declared.Arrow.{Arrow}
 use Rattle.arrows.specs.Arrows.{arrow, square, cross, dot, ahead}
 
 -- 3 micrometres of Z are to the right, and 6 in half micrometres; 3 of X, on the diameter, are up, and 3

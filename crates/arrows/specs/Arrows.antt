@@ -5,7 +5,7 @@ use Prim.Native.Nat.{ℕ, _+_, _-_, _*_}
 use lib.Dec.{ltb, leb}
 use lib.IntN.{ℤ, pos, natAbs, _+ℤ_, _-ℤ_, _*ℤ_}
 use lib.Signed.{leZ}
-use Rattle.arrows.specs.declared.arrow.Arrow.{Arrow}
+use Rattle.arrows.specs.declared.Arrow.{Arrow}
 
 -- from the centre at cx, cz to the place x, z
 abbrev pub arrow : ℤ → ℤ → ℤ → ℤ → Arrow

@@ -1,7 +1,7 @@
 -- The ranges by which no product of the code wraps. They serve contracts and proofs.
 use Prim.Native.Nat.{ℕ, _≤_}
 use lib.IntN.{ℤ, natAbs}
-use Rattle.arrows.specs.declared.arrow.Arrow.{Arrow}
+use Rattle.arrows.specs.declared.Arrow.{Arrow}
 
 -- the product of two parts up to this fits 64 bits, and so does the sum of two such products
 abbrev pub greatestPart : ℕ

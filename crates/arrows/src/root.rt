@@ -32,7 +32,7 @@ pub fn root_at_most(n: u64, t: i64) -> bool
     requires { ⌜ natAbs t ≤ greatestPart ⌝ }
     ensures { λ r. ⌜ r ≡ rootUpTo n t ⌝ }
 {
-    (0 <= t) & (n <= crate::arrow::squared(t))
+    (0 <= t) & (n <= crate::squared(t))
 }
 
 // Whether it is at least t.
@@ -40,5 +40,5 @@ pub fn root_at_least(n: u64, t: i64) -> bool
     requires { ⌜ natAbs t ≤ greatestPart ⌝ }
     ensures { λ r. ⌜ r ≡ rootFrom n t ⌝ }
 {
-    (t <= 0) | (crate::arrow::squared(t) <= n)
+    (t <= 0) | (crate::squared(t) <= n)
 }

@@ -10,26 +10,26 @@ use Rattle.codes.specs.Codes.{gCode}
 use Rattle.block.specs.Slots.{tSlot, dSlot, motionSlot, has, codeIn, gIn}
 use Rattle.state.specs.Modal.{atStart, blockMotion, feedAfter, dueAfter, settled}
 use Rattle.acts.specs.Acting.{motionBy, keep}
-use Rattle.codes.specs.declared.meaning.Motion.the-variants as motion
-use Rattle.block.specs.declared.words.Block.{Block}
-use Rattle.settings.specs.declared.limits.Span.{Span}
+use Rattle.codes.specs.declared.Motion.the-variants as motion
+use Rattle.block.specs.declared.Block.{Block}
+use Rattle.settings.specs.declared.Span.{Span}
 use Rattle.settings.specs.Limits.{outsideSpan, outside}
-use Rattle.acts.specs.declared.acting.Kept.{Kept}
-use Rattle.acts.specs.declared.acting.Kept.the-variants as kept
+use Rattle.acts.specs.declared.Kept.{Kept}
+use Rattle.acts.specs.declared.Kept.the-variants as kept
 use Rattle.arcs.specs.Arcs.{arcOf}
-use Rattle.state.specs.declared.modal.State.{State}
+use Rattle.state.specs.declared.State.{State}
 use Rattle.turning.specs.Turning.{tooShort}
-use Rattle.deeds.specs.declared.deed.Deed.the-variants as deed
+use Rattle.deeds.specs.declared.Deed.the-variants as deed
 use Rattle.scaling.specs.declared.Sending.{Sending}
 use Rattle.asking.specs.declared.Asked.{Asked}
 use Rattle.deeds.specs.Deed.{hasPath, hasCentre, straightIf, roundOf, roundIf, moveOf, deedOf}
 use Rattle.scaling.specs.Scaled.{isFacing, turningOf, grooveOf}
 use Rattle.asking.specs.Judge.{asksOf, alarmOf}
 use Rattle.moves.specs.Kinds.{rapid, feed, thread}
-use Rattle.moves.specs.declared.record.Record.{Record}
+use Rattle.moves.specs.declared.Record.{Record}
 use Rattle.cycles.specs.declared.Cycle.the-variants as cycle
-use Rattle.deeds.specs.declared.deed.Deed.{Deed}
-use Rattle.settings.specs.declared.limits.Limits.{Limits}
+use Rattle.deeds.specs.declared.Deed.{Deed}
+use Rattle.settings.specs.declared.Limits.{Limits}
 
 -- a block of an X and a Z word and of the first six D words, with the places of the X and the Z word
 abbrev words : ℕ → ℕ → ℤ → ℤ → List ℤ → Block

@@ -11,12 +11,12 @@ use Rattle.alarms.specs.Numbers.{noMotion, notRapid, badFeed, outsideLimits, ba
 use Rattle.moves.specs.Form.{AllFitting}
 use Rattle.arcs.proofs.Ranges.{fits-three, arc-fitting}
 use Rattle.axes.specs.Limits.{anyOutside}
-use Rattle.settings.specs.declared.limits.Limits.{Limits}
+use Rattle.settings.specs.declared.Limits.{Limits}
 use Rattle.cycles.specs.Cycle as cycle
 use Rattle.cycles.specs.declared.Cycle as cycles
 use Rattle.cycles.proofs.Lawful.{lawful}
-use Rattle.deeds.specs.declared.deed.Deed.{Deed}
-use Rattle.deeds.specs.declared.deed.Deed.the-variants.{Nothing, Nowhere, Dwell, Straight, Round, Cycle}
+use Rattle.deeds.specs.declared.Deed.{Deed}
+use Rattle.deeds.specs.declared.Deed.the-variants.{Nothing, Nowhere, Dwell, Straight, Round, Cycle}
 use Rattle.asking.specs.declared.Asked.{Asked}
 use Rattle.asking.specs.declared.Asks.{Asks}
 use Rattle.asking.specs.Judge.{refused, ofRecords, ofCycle, asksOf, feedWrong, roomWrong, alarmOf, doing}

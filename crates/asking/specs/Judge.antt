@@ -7,19 +7,19 @@ use Prim.Native.Nat.{ℕ, _+_}
 use lib.Dec.{ltb}
 use lib.ListN.{length}
 use Rattle.alarms.specs.Numbers.{noMotion, notRapid, badFeed, outsideLimits, badLengths, noRoom}
-use Rattle.moves.specs.declared.record.Record.{Record}
+use Rattle.moves.specs.declared.Record.{Record}
 use Rattle.settings.specs.Limits.{outside}
 use Rattle.axes.specs.Limits.{anyOutside}
-use Rattle.settings.specs.declared.limits.Limits.{Limits}
+use Rattle.settings.specs.declared.Limits.{Limits}
 use Rattle.arcs.specs.Arcs.{arcRecords, uneven}
 use Rattle.straying.specs.Straying.{straying}
 use Rattle.cycles.specs.Feeds.{leastOfFeed, greatestFeed}
 use Rattle.cycles.specs.Cycle as cycle
 use Rattle.cycles.specs.declared.Cycle as cycles
-use Rattle.deeds.specs.declared.deed.Deed.{Deed}
-use Rattle.deeds.specs.declared.deed.Deed.the-variants.{Nothing, Nowhere, Dwell, Straight, Round, Cycle}
-use Rattle.deeds.specs.declared.deed.Round as rounds
-use Rattle.deeds.specs.declared.deed.Straight as straights
+use Rattle.deeds.specs.declared.Deed.{Deed}
+use Rattle.deeds.specs.declared.Deed.the-variants.{Nothing, Nowhere, Dwell, Straight, Round, Cycle}
+use Rattle.deeds.specs.declared.Round as rounds
+use Rattle.deeds.specs.declared.Straight as straights
 use Rattle.asking.specs.declared.Asked.{Asked}
 use Rattle.asking.specs.declared.Asks.{Asks}
 

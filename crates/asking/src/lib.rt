@@ -1,10 +1,10 @@
 // The alarms of a deed, in the paper's order: 15, 16, 17, 19, 18, 20. (01: "then blocks as run: .. 15, 16, 17, 19, 18, 20".)
 // Nothing is written and no cycle is opened to judge it.
 use cycles::Cycle;
-use deeds::deed::Deed;
-use deeds::deed::Round;
-use deeds::deed::Straight;
-use settings::limits::Limits;
+use deeds::Deed;
+use deeds::Round;
+use deeds::Straight;
+use settings::Limits;
 ghost use mathlib.Core.Path.{_≡_};
 ghost use Prim.Native.Nat.{_<_};
 ghost use Rattle.cycles.specs.Cycle as cycle;
@@ -42,7 +42,7 @@ fn of_straight(m: Straight, l: Limits) -> Asks
     ensures { λ r. ⌜ r ≡ ofStraight m l ⌝ }
 {
     let goes = m.goes;
-    let outside = settings::limits::is_outside(l, goes.x, goes.z);
+    let outside = settings::is_outside(l, goes.x, goes.z);
     Asks {
         nowhere: false,
         waits: !m.rapid,
@@ -59,7 +59,7 @@ fn of_round(round: Round, l: Limits) -> Asks
     ensures { λ r. ⌜ r ≡ ofRound round l ⌝ }
 {
     let arc = round.arc;
-    let wrong = arcs::arc::is_uneven(arc);
+    let wrong = arcs::is_uneven(arc);
     let outside = straying::is_straying(l, arc);
     Asks {
         nowhere: false,

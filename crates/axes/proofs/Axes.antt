@@ -8,13 +8,13 @@ use native.Mathlib.Omega.{arith}
 use lib.IntN.{ℤ, pos, negsuc, negℤ, natAbs, _+ℤ_, _-ℤ_}
 use mir.Syntax.{w32}
 use mir.Val.{SFits}
-use Rattle.whole.specs.declared.signed.Side.{Side}
-use Rattle.whole.specs.declared.signed.Side.the-variants.{Minus, Zero, Plus}
+use Rattle.whole.specs.declared.Side.{Side}
+use Rattle.whole.specs.declared.Side.the-variants.{Minus, Zero, Plus}
 use Rattle.whole.specs.Signed.{sideOf, along}
 use Rattle.whole.proofs.Integers.{whole, add-in, sub-in, up-neg, down-neg}
 use Rattle.whole.proofs.Sides.{toward}
 use Rattle.axes.specs.Axis.{distance, side, net, allowanceLine}
-use Rattle.axes.specs.declared.axis.Axis.{Axis}
+use Rattle.axes.specs.declared.Axis.{Axis}
 
 -- the allowance line lies the net distance from the start
 pub line-net : (a : Axis) → a .allowance ≤ distance a → a .start +ℤ along (side a) (net a) ≡ allowanceLine a

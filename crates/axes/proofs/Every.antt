@@ -3,9 +3,9 @@
 use mathlib.Core.Path.{_≡_, refl}
 use mathlib.Core.Bool.{false}
 use mathlib.Core.List.{List, [], _∷_, _++_}
-use Rattle.moves.specs.declared.record.Record.{Record}
+use Rattle.moves.specs.declared.Record.{Record}
 use Rattle.moves.specs.Form.{Fitting, AllFitting}
-use Rattle.settings.specs.declared.limits.Limits.{Limits}
+use Rattle.settings.specs.declared.Limits.{Limits}
 use Rattle.settings.specs.Limits.{outside}
 use Rattle.axes.specs.Limits.{anyOutside}
 use Rattle.axes.proofs.Places.{neither, both}

@@ -3,7 +3,7 @@
 use mathlib.Core.Path.{_≡_, refl}
 use mathlib.Core.Bool.{Bool, true, false}
 use lib.IntN.{ℤ}
-use Rattle.moves.specs.declared.record.Record.{Record}
+use Rattle.moves.specs.declared.Record.{Record}
 use Rattle.moves.specs.Last.{after}
 use Rattle.moves.proofs.Last.{Moves, after-move}
 use Rattle.axes.specs.Goes.{rapidTo}

@@ -5,8 +5,8 @@ use mathlib.Core.Bool.{Bool, true, false, cond, _||_}
 use Prim.Native.Nat.{ℕ}
 use lib.Dec.{T}
 use lib.IntN.{ℤ}
-use Rattle.settings.specs.declared.limits.Span.{Span}
-use Rattle.settings.specs.declared.limits.Limits.{Limits}
+use Rattle.settings.specs.declared.Span.{Span}
+use Rattle.settings.specs.declared.Limits.{Limits}
 use Rattle.axes.specs.Goes.{rapidTo, feedTo, threadTo, dwellAt}
 use Rattle.settings.specs.Limits.{outsideSpan, outside}
 use Rattle.axes.specs.Limits.{outsideTo}

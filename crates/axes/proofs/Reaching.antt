@@ -7,11 +7,11 @@ use lib.IntN.{ℤ, pos, negℤ, _+ℤ_}
 use lib.Dec.{T}
 use lib.Signed.{ltZ}
 use Rattle.whole.specs.Signed.{along}
-use Rattle.whole.specs.declared.signed.Side.{Side}
-use Rattle.whole.specs.declared.signed.Side.the-variants.{Minus, Zero, Plus}
+use Rattle.whole.specs.declared.Side.{Side}
+use Rattle.whole.specs.declared.Side.the-variants.{Minus, Zero, Plus}
 use Rattle.whole.proofs.Integers.{whole, add-in, up-neg, down-neg, nlt-test}
 use Rattle.settings.specs.Limits.{outsideSpan}
-use Rattle.settings.specs.declared.limits.Span.{Span}
+use Rattle.settings.specs.declared.Span.{Span}
 
 -- a place that is not outside is on neither side of the span
 pub record Inside (s : Span) (v : ℤ) : Type 0 where

@@ -2,9 +2,9 @@
 -- the start by D2." "Facing: exchange the axes". An axis comes with its allowance: D2 on Z, and on X, by 02, 2 x D0.
 use Prim.Native.Nat.{ℕ, _-_}
 use lib.IntN.{ℤ, _-ℤ_, natAbs}
-use Rattle.whole.specs.declared.signed.Side.{Side}
+use Rattle.whole.specs.declared.Side.{Side}
 use Rattle.whole.specs.Signed.{sideOf, along}
-use Rattle.axes.specs.declared.axis.Axis.{Axis}
+use Rattle.axes.specs.declared.Axis.{Axis}
 
 -- the distance from start to target, and the side on which the target lies
 abbrev pub distance : Axis → ℕ

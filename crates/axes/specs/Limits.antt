@@ -3,8 +3,8 @@ use mathlib.Core.Bool.{Bool, false, cond, _||_}
 use mathlib.Core.List.{List, [], _∷_}
 use lib.IntN.{ℤ}
 use Rattle.settings.specs.Limits.{outside}
-use Rattle.settings.specs.declared.limits.Limits.{Limits}
-use Rattle.moves.specs.declared.record.Record.{Record}
+use Rattle.settings.specs.declared.Limits.{Limits}
+use Rattle.moves.specs.declared.Record.{Record}
 
 abbrev pub outsideTo : Limits → Bool → ℤ → ℤ → Bool
 outsideTo l facing i a = cond facing (outside l a i) (outside l i a)

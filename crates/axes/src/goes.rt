@@ -2,7 +2,7 @@
 // Each function makes one record.
 ghost use mathlib.Core.Path.{_≡_};
 ghost use Rattle.axes.specs.Goes.{rapidTo, feedTo, threadTo, dwellAt};
-use moves::record::Record;
+use moves::Record;
 
 pub fn rapid_to(facing: bool, inward: i32, across: i32) -> Record
     ensures { λ r. ⌜ r ≡ rapidTo facing inward across ⌝ }

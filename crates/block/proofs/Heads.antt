@@ -13,8 +13,8 @@ use Rattle.addresses.specs.declared.NextWord.{NextWord}
 use Rattle.addresses.specs.declared.NextWord.the-variants as next
 use Rattle.numbers.proofs.Bounds.{Below}
 use Rattle.addresses.proofs.Within.{Within, WordIn, NextWithin, word-within}
-use Rattle.block.specs.declared.words.Head.{Head}
-use Rattle.block.specs.declared.words.Head.the-variants.{Blank, ProgramLine, BlockLine, Other}
+use Rattle.block.specs.declared.Head.{Head}
+use Rattle.block.specs.declared.Head.the-variants.{Blank, ProgramLine, BlockLine, Other}
 use Rattle.block.specs.Words.{isProgramAddress, headBy, headOfNext, headOf, lineBy}
 
 -- the number of a head

@@ -12,14 +12,14 @@ use Rattle.addresses.specs.declared.Word.{Word}
 use Rattle.addresses.specs.declared.NextWord.{NextWord}
 use Rattle.addresses.specs.declared.NextWord.the-variants as next
 use Rattle.addresses.proofs.Wording.{words-more, next-end}
-use Rattle.block.specs.declared.words.Block.{Block}
-use Rattle.block.specs.declared.words.Slot.{Slot}
-use Rattle.block.specs.declared.words.Slot.the-variants.{At, Late, Unknown}
-use Rattle.block.specs.declared.words.Head.{Head}
-use Rattle.block.specs.declared.words.Head.the-variants.{Blank}
-use Rattle.block.specs.declared.words.LineStart.{LineStart}
-use Rattle.block.specs.declared.words.LineStart.the-variants as start
-use Rattle.block.specs.declared.words.ReadLine.{ReadLine}
+use Rattle.block.specs.declared.Block.{Block}
+use Rattle.block.specs.declared.Slot.{Slot}
+use Rattle.block.specs.declared.Slot.the-variants.{At, Late, Unknown}
+use Rattle.block.specs.declared.Head.{Head}
+use Rattle.block.specs.declared.Head.the-variants.{Blank}
+use Rattle.block.specs.declared.LineStart.{LineStart}
+use Rattle.block.specs.declared.LineStart.the-variants as start
+use Rattle.block.specs.declared.ReadLine.{ReadLine}
 use Rattle.block.specs.Words.{slotOf, noWords, isEnd, putIn, putWord, isProgramAddress, faultyRest, gather, headOfNext, headOf, startBy, startOf, reading, lineBy, lineOf}
 
 -- no words are no more than any number

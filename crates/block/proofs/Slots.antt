@@ -6,8 +6,8 @@ use borrow.Author.Tests.{ne-eqb}
 use Rattle.letters.specs.Letters.{percent, letterD, letterF, letterG, letterI, letterK, letterL, letterM, letterN, letterO, letterP, letterS, letterT, letterU, letterW, letterX, letterZ}
 use Rattle.addresses.specs.Words.{lacksPoint}
 use Rattle.addresses.specs.declared.Word.{Word}
-use Rattle.block.specs.declared.words.Slot.the-variants.{Unknown}
-use Rattle.block.specs.declared.words.Head.the-variants.{Other}
+use Rattle.block.specs.declared.Slot.the-variants.{Unknown}
+use Rattle.block.specs.declared.Head.the-variants.{Other}
 use Rattle.block.specs.Words.{slotOf, isProgramAddress, headBy}
 
 module _ (w : Word) where

@@ -18,12 +18,12 @@ use Rattle.addresses.specs.declared.NextWord.{NextWord}
 use Rattle.addresses.specs.declared.NextWord.the-variants as next
 use Rattle.numbers.proofs.Bounds.{cond-ind}
 use Rattle.addresses.proofs.Within.{WordIn, NextWithin, word-within}
-use Rattle.codes.specs.declared.meaning.Code.{Code}
-use Rattle.codes.specs.declared.meaning.Code.the-variants as code
-use Rattle.block.specs.declared.words.Block.{Block}
-use Rattle.block.specs.declared.words.Slot.{Slot}
-use Rattle.block.specs.declared.words.Slot.the-variants.{At, Late, Unknown}
-use Rattle.block.specs.declared.words.Rest.{Rest}
+use Rattle.codes.specs.declared.Code.{Code}
+use Rattle.codes.specs.declared.Code.the-variants as code
+use Rattle.block.specs.declared.Block.{Block}
+use Rattle.block.specs.declared.Slot.{Slot}
+use Rattle.block.specs.declared.Slot.the-variants.{At, Late, Unknown}
+use Rattle.block.specs.declared.Rest.{Rest}
 use Rattle.codes.specs.Codes.{gCode, mCode}
 use Rattle.block.specs.Slots.{slots, xSlot, zSlot, uSlot, wSlot, iSlot, kSlot, fSlot, sSlot, tSlot, mSlot, pSlot, dSlot, lSlot, gSlot}
 use Rattle.block.specs.Words.{codeSlot, numberIn, slotOf, noWords, putIn, putWord, isProgramAddress, faultyRest, gather, lineBy, lineOf}

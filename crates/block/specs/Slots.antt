@@ -7,9 +7,9 @@ use lib.Dec.{eqb}
 use lib.IntN.{pos, natAbs}
 use lib.ListN.{getD}
 use Rattle.codes.specs.Codes.{gCode, mCode}
-use Rattle.codes.specs.declared.meaning.Code.{Code}
-use Rattle.codes.specs.declared.meaning.Code.the-variants.{Unknown}
-use Rattle.block.specs.declared.words.Block.{Block}
+use Rattle.codes.specs.declared.Code.{Code}
+use Rattle.codes.specs.declared.Code.the-variants.{Unknown}
+use Rattle.block.specs.declared.Block.{Block}
 
 -- how many there are
 abbrev pub slots : ℕ

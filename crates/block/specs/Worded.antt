@@ -6,7 +6,7 @@ use Prim.Native.Nat.{ℕ, _≤_, _<_}
 use lib.IntN.{pos, natAbs}
 use lib.ListN.{getD}
 use Rattle.whole.specs.Position.{inTable}
-use Rattle.block.specs.declared.words.Block.{Block}
+use Rattle.block.specs.declared.Block.{Block}
 use Rattle.block.specs.Slots.{kSlot, dSlot}
 
 -- What is known of a block that was read: its path words, and I and K, which lie behind them, are in the range of the table, since they have at most seven digits, its D words are at most 32,767, and no word

@@ -12,17 +12,17 @@ use Rattle.addresses.specs.Words.{Words, word, ended, faulty, nextWord, lacksPo
 use Rattle.addresses.specs.declared.Word.{Word}
 use Rattle.addresses.specs.declared.NextWord.{NextWord}
 use Rattle.addresses.specs.declared.NextWord.the-variants as next
-use Rattle.codes.specs.declared.meaning.Code.{Code}
-use Rattle.codes.specs.declared.meaning.Code.the-variants as code
-use Rattle.block.specs.declared.words.Block.{Block}
-use Rattle.block.specs.declared.words.Slot.{Slot}
-use Rattle.block.specs.declared.words.Slot.the-variants.{At, Late, Unknown}
-use Rattle.block.specs.declared.words.Head.{Head}
-use Rattle.block.specs.declared.words.Head.the-variants.{Blank, ProgramLine, BlockLine, Other}
-use Rattle.block.specs.declared.words.LineStart.{LineStart}
-use Rattle.block.specs.declared.words.LineStart.the-variants as start
-use Rattle.block.specs.declared.words.Rest.{Rest}
-use Rattle.block.specs.declared.words.ReadLine.{ReadLine}
+use Rattle.codes.specs.declared.Code.{Code}
+use Rattle.codes.specs.declared.Code.the-variants as code
+use Rattle.block.specs.declared.Block.{Block}
+use Rattle.block.specs.declared.Slot.{Slot}
+use Rattle.block.specs.declared.Slot.the-variants.{At, Late, Unknown}
+use Rattle.block.specs.declared.Head.{Head}
+use Rattle.block.specs.declared.Head.the-variants.{Blank, ProgramLine, BlockLine, Other}
+use Rattle.block.specs.declared.LineStart.{LineStart}
+use Rattle.block.specs.declared.LineStart.the-variants as start
+use Rattle.block.specs.declared.Rest.{Rest}
+use Rattle.block.specs.declared.ReadLine.{ReadLine}
 use Rattle.codes.specs.Codes.{gCode, mCode}
 use Rattle.acts.specs.Acting.{endsBy}
 use Rattle.block.specs.Slots.{slots, xSlot, zSlot, uSlot, wSlot, iSlot, kSlot, fSlot, sSlot, tSlot, mSlot, pSlot, dSlot, lSlot, gSlot}

@@ -10,7 +10,7 @@ use lib.ListN.{length, replicate, length-replicate}
 use Rattle.alarms.specs.Numbers.{badSettings}
 use Rattle.places.specs.Places.{sixteenBits}
 use Rattle.reading.specs.Filling.{mostPlaces}
-use Rattle.settings.specs.Row.{unfit, settingsOf}
+use Rattle.panel.specs.Row.{unfit, settingsOf}
 use Rattle.answers.specs.Answers.{numberOf, placeOf, countOf}
 use Rattle.answers.specs.declared.Answer.{Answer}
 use Rattle.interpreter.specs.Answers.{Result, refused}
@@ -20,12 +20,13 @@ use Rattle.resuming.specs.Handed as left
 use Rattle.resuming.specs.declared.Handed.the-variants as handed
 use Rattle.paused.specs.Kept.{Fitting}
 use Rattle.inhand.specs.State.{stateWords}
-use Rattle.onemove.specs.declared.Told.{Told}
-use Rattle.onemove.specs.declared.Told.the-variants as told
+use Rattle.packing.specs.declared.Told.{Told}
+use Rattle.packing.specs.declared.Told.the-variants as told
 use Rattle.onemove.specs.OneMove.{resultAt, Holds, Hands, InTurn}
 use Rattle.onemove.proofs.Turns.{each-in-turn}
 use Rattle.board.specs.Door.{atDoor, firstAtDoor}
-use Rattle.board.specs.Asked.{answerNumber, over, toldNumber, startNumber, StartAtDoor, AsksAtDoor, Answers, OneMoveAtDoor, OneMoveLaw}
+use Rattle.board.specs.Asked.{startNumber, StartAtDoor, AsksAtDoor, Answers, OneMoveAtDoor, OneMoveLaw}
+use Rattle.packing.specs.Packing.{answerNumber, over, toldNumber}
 use Rattle.board.proofs.Doors.{demand-one-at-door}
 
 -- ---- what is wanted

@@ -3,13 +3,12 @@
 use mathlib.Core.Path.{_≡_, refl, sym, _∙_, subst}
 use mathlib.Core.Bool.{Bool, true, false, cond}
 use mathlib.Core.List.{List, []}
-use Prim.Native.Nat.{ℕ, _+_, _*_, _<_}
+use Prim.Native.Nat.{ℕ}
 use native.Mathlib.Omega.{arith}
 use lib.IntN.{ℤ}
 use lib.ListN.{length}
 use Rattle.alarms.specs.Numbers.{badSettings}
-use Rattle.settings.specs.declared.control.Settings.{Settings}
-use Rattle.answers.specs.Answers.{numberOf, placeOf, countOf}
+use Rattle.settings.specs.declared.Settings.{Settings}
 use Rattle.interpreter.specs.Answers.{Result, refused, interpretation, answerOf, placesOf, bufferOf, laidBy}
 use Rattle.taking.specs.Steps.{Task}
 use Rattle.answers.specs.declared.Answer.{Answer}
@@ -27,24 +26,9 @@ use Rattle.demands.proofs.Strokes.{depth-law, depth-law-in-buffer}
 use Rattle.demands.proofs.Arcs.{none-owed as no-arcs, none-owed-in as no-arcs-in, arc-promise, arc-promise-in-buffer, arcs-written, arcs-written-in-buffer}
 use Rattle.demands.proofs.EveryBlock.{every-block-named}
 use Rattle.alarmed.proofs.Alone.{alarms-stand}
-use Rattle.settings.specs.Row.{unfit, settingsOf}
-use Rattle.board.specs.Door.{atDoor, answerAt, placesAt, bufferAt, Packed, acceptedAt, DemandOneAtDoor, DemandTwoAtDoor, EveryBlockNamedAtDoor, inputAt, AlarmsStandAtDoor, taskAt, DemandThreeAtDoor, DemandThreeInBufferAtDoor, ThreadPromiseAtDoor, ThreadPromiseInBufferAtDoor, DepthLawAtDoor, DepthLawInBufferAtDoor, ArcPromiseAtDoor, ArcPromiseInBufferAtDoor, ArcsWrittenAtDoor, ArcsWrittenInBufferAtDoor, Fits}
-
--- ---- the numbers of an answer, as they stand in one
-pub packs : (a : Answer) (r : ℕ) → Fits a → numberOf a < 256 → r ≡ countOf a + 65_536 * (placeOf a + 65_536 * numberOf a) → Packed a r
-packs a r f n e = record {
-  count = omega (arith, f .count, e);
-  place = omega (arith, f .count, f .place, e);
-  alarm = omega (arith, f .count, f .place, e);
-  rest = omega (arith, f .count, f .place, n, e);
-}
-
--- an answer by its kind: what is known of it, and what was made of it
-pub fits-by : {a b : Answer} → a ≡ b → Fits a → Fits b
-fits-by e f = subst Fits e f
-
-pub packed-by : {a b : Answer} {r : ℕ} → a ≡ b → Packed b r → Packed a r
-packed-by {r = r} e p = subst (λ (x : Answer). Packed x r) (sym e) p
+use Rattle.panel.specs.Row.{unfit, settingsOf}
+use Rattle.board.specs.Door.{atDoor, answerAt, placesAt, bufferAt, acceptedAt, DemandOneAtDoor, DemandTwoAtDoor, EveryBlockNamedAtDoor, inputAt, AlarmsStandAtDoor, taskAt, DemandThreeAtDoor, DemandThreeInBufferAtDoor, ThreadPromiseAtDoor, ThreadPromiseInBufferAtDoor, DepthLawAtDoor, DepthLawInBufferAtDoor, ArcPromiseAtDoor, ArcPromiseInBufferAtDoor, ArcsWrittenAtDoor, ArcsWrittenInBufferAtDoor}
+use Rattle.packing.specs.Packing.{Packed, Fits}
 
 -- ---- an answer, a table of places and a buffer, as the door gives them
 module _ (tape : List ℕ) (table numbers : List ℤ) (places b : List ℕ) where

@@ -3,39 +3,24 @@
 use mathlib.Core.Path.{_≡_}
 use mathlib.Core.Bool.{Bool, cond}
 use mathlib.Core.List.{List}
-use Prim.Native.Nat.{ℕ, suc, _+_, _*_, _%_, _≤_}
+use Prim.Native.Nat.{ℕ, suc, _+_, _*_, _≤_}
 use lib.IntN.{ℤ}
 use lib.ListN.{length}
-use Rattle.whole.specs.Bytes.{laid}
+use Rattle.octets.specs.Bytes.{laid}
 use Rattle.moves.specs.Form.{recordSize, recordBytes}
 use Rattle.places.specs.Places.{sixteenBits}
 use Rattle.reading.specs.Filling.{mostPlaces}
 use Rattle.answers.specs.Answers.{numberOf, placeOf, countOf}
-use Rattle.answers.specs.declared.Answer.{Answer}
 use Rattle.resuming.specs.declared.Handed.{Handed}
 use Rattle.resuming.specs.declared.Handed.the-variants as handed
 use Rattle.resuming.specs.Handed.{roomy, leftOf}
 use Rattle.resuming.specs.Handed as left
 use Rattle.inhand.specs.State.{stateWords}
-use Rattle.onemove.specs.declared.Told.{Told}
-use Rattle.onemove.specs.declared.Told.the-variants as told
+use Rattle.packing.specs.declared.Told.{Told}
+use Rattle.packing.specs.declared.Told.the-variants as told
+use Rattle.packing.specs.Packing.{over, toldNumber}
 use Rattle.onemove.specs.OneMove.{StartsIn, NextMeets}
 use Rattle.board.specs.Door.{atDoor, firstAtDoor}
-
--- ---- an answer as a number
-abbrev pub answerNumber : Answer → ℕ
-answerNumber a = countOf a % sixteenBits + sixteenBits * (placeOf a % sixteenBits + sixteenBits * numberOf a)
-
-abbrev pub over : ℕ
-over = 1_099_511_627_776
-
-abbrev pub refused : ℕ
-refused = 2_199_023_255_552
-
-abbrev pub toldNumber : Told → ℕ
-toldNumber told.Move = 0
-toldNumber (told.Over a) = over + answerNumber a
-toldNumber told.Refused = refused
 
 -- ---- what the doors do
 abbrev pub startNumber : Bool → ℕ

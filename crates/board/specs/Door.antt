@@ -2,12 +2,11 @@
 use mathlib.Core.Path.{_≡_}
 use mathlib.Core.Bool.{true, false, cond}
 use mathlib.Core.List.{List, []}
-use Prim.Native.Nat.{ℕ, _/_, _%_, _<_}
+use Prim.Native.Nat.{ℕ}
 use lib.IntN.{ℤ}
 use lib.ListN.{length}
 use Rattle.alarms.specs.Numbers.{badSettings}
-use Rattle.settings.specs.Row.{unfit, settingsOf}
-use Rattle.answers.specs.Answers.{numberOf, placeOf, countOf}
+use Rattle.panel.specs.Row.{unfit, settingsOf}
 use Rattle.interpreter.specs.Answers.{Result, refused, interpretation, firstInterpretation, placesOf, laidBy}
 use Rattle.answers.specs.declared.Answer.{Answer}
 use Rattle.taking.specs.Steps.{Task}
@@ -37,13 +36,6 @@ placesAt tape table numbers places bytes = cond (unfit numbers) places (placesOf
 
 abbrev pub bufferAt : List ℕ → List ℤ → List ℤ → ℕ → List ℕ → List ℕ
 bufferAt tape table numbers size b = laidBy (atDoor tape table numbers size (length b)) b
-
--- an answer as one number. "bits 0-15 the records written, bits 16-31 the place on the tape, bits 32-39 the alarm, 0 where the list is complete": the bits above are 0
-pub record Packed (a : Answer) (r : ℕ) : Type 0 where
-  pub count : r % 65_536 ≡ countOf a
-  pub place : r / 65_536 % 65_536 ≡ placeOf a
-  pub alarm : r / 4_294_967_296 ≡ numberOf a
-  pub rest : r < 1_099_511_627_776
 
 -- the lines that are read and accepted
 unfoldable pub acceptedAt : List ℕ → List ℤ → List ℤ → ℕ → ℕ → List Text
@@ -111,9 +103,3 @@ ArcsWrittenAtDoor tape table numbers size bytes = Each (Rounds (taskAt tape tabl
 abbrev pub ArcsWrittenInBufferAtDoor : List ℕ → List ℤ → List ℤ → ℕ → List ℕ → Type 0
 ArcsWrittenInBufferAtDoor tape table numbers size b =
     EachFrom (RoundsIn (taskAt tape table numbers size (length b)) (bufferAt tape table numbers size b)) 0 (atDoor tape table numbers size (length b) .steps)
-
--- ---- what is known of an answer before it is packed
--- an answer whose place and count have 16 bits
-pub record Fits (a : Answer) : Type 0 where
-  pub place : placeOf a < 65_536
-  pub count : countOf a < 65_536

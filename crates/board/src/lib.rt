@@ -3,33 +3,14 @@
 // one pass.
 // Settings come as eleven numbers and the answer goes as one. No caller has to check a number first: settings that are not eleven numbers, or of which one is out of range, are alarm 1.
 use answers::Answer;
-use onemove::Told;
 ghost use mathlib.Core.Path.{_≡_};
-ghost use Prim.Native.Nat.{_+_, _*_, _<_};
 ghost use lib.ListN.{length};
 ghost use Rattle.judging.specs.Judging.{judged};
 ghost use Rattle.readback.specs.Lists.{readOf, readJudged};
 ghost use Rattle.numbered.specs.Numbers.{refusalOf, answerOf, numbersAfter};
-ghost use Rattle.board.specs.Door.{answerAt, placesAt, bufferAt, Fits, Packed};
-ghost use Rattle.board.specs.Asked.{answerNumber, over, toldNumber, StartAtDoor, NextAtDoor};
-
-// Alarm, place and count as one number.
-fn packed(alarm: u8, place: usize, count: usize) -> u64
-    requires { ⌜ (place < 65_536) × (count < 65_536) ⌝ }
-    ensures { λ r. ⌜ r ≡ count + 65_536 * (place + 65_536 * alarm) ⌝ }
-{
-    count as u64 + 65_536 * (place as u64 + 65_536 * alarm as u64)
-}
-
-fn packed_answer(answer: Answer) -> u64
-    requires { ⌜ Fits answer ⌝ }
-    ensures { λ r. ⌜ Packed answer r ⌝ }
-{
-    match answer {
-        Answer::Complete(count) => packed(0, 0, count),
-        Answer::Alarm(alarm, place, count) => packed(alarm, place, count),
-    }
-}
+ghost use Rattle.board.specs.Door.{answerAt, placesAt, bufferAt};
+ghost use Rattle.packing.specs.Packing.{Packed};
+ghost use Rattle.board.specs.Asked.{StartAtDoor, NextAtDoor};
 
 // Bits 0 to 15 of the answer are the records written, bits 16 to 31 the place on the tape, bits 32 to 39 the alarm, 0 where the list is complete. The bits above are 0.
 #[no_mangle]
@@ -44,50 +25,21 @@ pub extern "C" fn tm02_interpret(
     ensures filled { λ _. ⌜ now (places .exit) ≡ placesAt (now (tape .entry)) (now (table .entry)) (now (settings .entry)) (now (places .entry)) (length (now (buf .entry))) ⌝ }
     ensures records { λ _. ⌜ now (buf .exit) ≡ bufferAt (now (tape .entry)) (now (table .entry)) (now (settings .entry)) (length (now (places .entry))) (now (buf .entry)) ⌝ }
 {
-    if settings::row::unfit(settings) {
-        return packed_answer(Answer::Alarm(alarms::BAD_SETTINGS, 0, 0));
+    if panel::unfit(settings) {
+        return packing::packed_answer(Answer::Alarm(alarms::BAD_SETTINGS, 0, 0));
     }
     let answer = interpreter::interpret::interpret(
         tape,
         table,
-        settings::row::settings_of(settings),
+        panel::settings_of(settings),
         places,
         buf,
     );
-    packed_answer(answer)
+    packing::packed_answer(answer)
 }
-
-// What an ask tells, in bits 40 and 41: a record, the answer of the run, or that nothing was done.
-pub const TOLD_OVER: u64 = 1_099_511_627_776;
-
-pub const TOLD_REFUSED: u64 = 2_199_023_255_552;
 
 // What a start answers where the words are not as many as a state has.
 pub const NOT_STARTED: u32 = 1;
-
-// 16 bits have a place and a count. (Words from elsewhere may have others.)
-const SIXTEEN_BITS: usize = 65_536;
-
-fn answer_number(answer: Answer) -> u64
-    ensures { λ r. ⌜ (r ≡ answerNumber answer) × (r < over) ⌝ }
-{
-    match answer {
-        Answer::Complete(count) => packed(0, 0, count % SIXTEEN_BITS),
-        Answer::Alarm(alarm, place, count) => {
-            packed(alarm, place % SIXTEEN_BITS, count % SIXTEEN_BITS)
-        }
-    }
-}
-
-fn told_number(told: Told) -> u64
-    ensures { λ r. ⌜ r ≡ toldNumber told ⌝ }
-{
-    match told {
-        Told::Move => 0,
-        Told::Over(answer) => TOLD_OVER + answer_number(answer),
-        Told::Refused => TOLD_REFUSED,
-    }
-}
 
 // Starts a run that is asked for one move at a time, in the lent words, whatever they hold. Answers 0, or 1 where they are not as many as a state has.
 #[no_mangle]
@@ -121,7 +73,7 @@ pub extern "C" fn tm02_next(
     ensures { λ r. ⌜ NextAtDoor (now (tape .entry)) (now (table .entry)) (now (settings .entry)) (now (places .entry)) (now (state .entry)) (now («record» .entry)) r (now (state .exit)) (now («record» .exit)) ⌝ }
 {
     let told = onemove::next(tape, table, settings, places, state, record);
-    told_number(told)
+    packing::told_number(told)
 }
 
 // Record number k, from 0, of a list, as seven numbers: kind, flags, X, Z, value, program, block. Answers 0, or why the list or k is refused, and then the lent numbers are as they came.

@@ -10,16 +10,16 @@ use lib.Dec.{eqb}
 use lib.ListN.{length}
 use borrow.Author.Tests.{eq-eqb, ne-eqb}
 use Rattle.axes.proofs.Places.{neither}
-use Rattle.moves.specs.declared.record.Record.{Record}
+use Rattle.moves.specs.declared.Record.{Record}
 use Rattle.moves.specs.Kinds.{dwell}
-use Rattle.drilling.specs.declared.bore.Bore.{Bore}
-use Rattle.bores.specs.declared.cursor.Stage.{Stage}
-use Rattle.bores.specs.declared.cursor.Stage.the-variants.{Bite, Home, Back, Dwell, Out, Over}
-use Rattle.bores.specs.declared.cursor.Cursor.{Cursor}
-use Rattle.drilling.specs.Bites.{nextBite, biting, hasZero}
+use Rattle.drilling.specs.declared.Bore.{Bore}
+use Rattle.bores.specs.declared.Stage.{Stage}
+use Rattle.bores.specs.declared.Stage.the-variants.{Bite, Home, Back, Dwell, Out, Over}
+use Rattle.bores.specs.declared.Cursor.{Cursor}
+use Rattle.bites.specs.Bites.{nextBite, biting, hasZero}
 use Rattle.drilling.specs.Drilling.{strokeOf, bites, wrong, deepAt, boreTo, outTo, clearing, boring, dwelling, drilling}
 use Rattle.bores.specs.Cursor.{bitesOf, ending, fromBite, backOf, restAt, restOf, overAt, over, at, afterBite, bitten, bottomed, opened, Ready, Sound, Makes}
-use Rattle.drilling.proofs.Rows.{some, no-room, bite-step, bite-first, bite-last}
+use Rattle.bites.proofs.Rows.{some, no-room, bite-step, bite-first, bite-last}
 use Rattle.drilling.proofs.Asked.{asked, one-bite, more-bites}
 
 -- ---- the bound on a row that has no 0 is free

@@ -4,13 +4,13 @@ use mathlib.Core.Bool.{Bool, true, false, cond}
 use mathlib.Core.List.{List, [], _∷_, _++_}
 use Prim.Native.Nat.{ℕ, _+_, _-_, _≤_, _<_}
 use lib.Dec.{eqb}
-use Rattle.moves.specs.declared.record.Record.{Record}
+use Rattle.moves.specs.declared.Record.{Record}
 use Rattle.moves.specs.Kinds.{dwell}
-use Rattle.drilling.specs.declared.bore.Bore.{Bore}
-use Rattle.bores.specs.declared.cursor.Stage.{Stage}
-use Rattle.bores.specs.declared.cursor.Stage.the-variants.{Bite, Home, Back, Dwell, Out, Over}
-use Rattle.bores.specs.declared.cursor.Cursor.{Cursor}
-use Rattle.drilling.specs.Bites.{nextBite, biting, hasZero}
+use Rattle.drilling.specs.declared.Bore.{Bore}
+use Rattle.bores.specs.declared.Stage.{Stage}
+use Rattle.bores.specs.declared.Stage.the-variants.{Bite, Home, Back, Dwell, Out, Over}
+use Rattle.bores.specs.declared.Cursor.{Cursor}
+use Rattle.bites.specs.Bites.{nextBite, biting, hasZero}
 use Rattle.drilling.specs.Drilling.{strokeOf, deepAt, outTo, boring, dwelling}
 
 -- ---- the records that are left

@@ -6,8 +6,8 @@ use Prim.Native.Nat.{ℕ, suc, _+_, _≤_, _<_}
 use native.Mathlib.Omega.{arith}
 use lib.ListN.{length, getD, take, drop, set}
 use lib.Seq.{take-suc, set-split, length-take-le}
-use Rattle.whole.specs.Bytes.{laid}
-use Rattle.whole.proofs.Laying.{length-laid, laid-on}
+use Rattle.octets.specs.Bytes.{laid}
+use Rattle.octets.proofs.Laying.{length-laid, laid-on}
 
 one-laid : (b : List ℕ) (n x : ℕ) → n < length b → set b n x ≡ laid b n (x ∷ [])
 unfolding laid

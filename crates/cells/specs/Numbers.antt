@@ -5,9 +5,9 @@ use Prim.Native.Nat.{ℕ, _+_, _*_, _%_, _^_}
 use lib.Dec.{eqb}
 use lib.IntN.{ℤ}
 use lib.ListN.{getD}
-use Rattle.whole.specs.Bytes.{signedOf}
-use Rattle.whole.specs.declared.signed.Side.{Side}
-use Rattle.whole.specs.declared.signed.Side.the-variants.{Minus, Zero, Plus}
+use Rattle.octets.specs.Bytes.{signedOf}
+use Rattle.whole.specs.declared.Side.{Side}
+use Rattle.whole.specs.declared.Side.the-variants.{Minus, Zero, Plus}
 use Rattle.division.specs.declared.Pieces.{Pieces}
 
 -- the word at a place, and the flag, the signed number, and the number of 8 and of 16 bits there

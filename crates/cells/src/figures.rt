@@ -1,10 +1,10 @@
 // The words of single fields, and of the pieces of a division, both ways.
 use division::Pieces;
-use whole::signed::Side;
+use whole::Side;
 ghost use mathlib.Core.Path.{_≡_};
 ghost use Prim.Native.Nat.{_+_, _/_, _%_, _^_, _<_, _≤_};
 ghost use lib.ListN.{length};
-ghost use Rattle.whole.specs.Bytes.{signedOf};
+ghost use Rattle.octets.specs.Bytes.{signedOf};
 ghost use Rattle.cells.specs.Numbers.{flagOf, flagAt, signedAt, byteAt, shortAt, wideAt, sideOf, piecesAt};
 
 const FALSE: u32 = 0;
@@ -21,13 +21,13 @@ const PLUS: u32 = 2;
 pub fn word_of(v: i32) -> u32
     ensures { λ r. ⌜ signedOf r ≡ v ⌝ }
 {
-    whole::bytes::u32_of_bytes(whole::bytes::bytes_of_i32(v))
+    octets::u32_of_bytes(octets::bytes_of_i32(v))
 }
 
 fn signed_of(u: u32) -> i32
     ensures { λ r. ⌜ r ≡ signedOf u ⌝ }
 {
-    whole::bytes::i32_of_bytes(whole::bytes::bytes_of_u32(u))
+    octets::i32_of_bytes(octets::bytes_of_u32(u))
 }
 
 pub fn signed_at(w: &[u32], at: usize) -> i32

@@ -2,7 +2,7 @@
 ghost use mathlib.Core.Path.{_≡_};
 ghost use Prim.Native.Nat.{_+_, _≤_};
 ghost use lib.ListN.{length};
-ghost use Rattle.whole.specs.Bytes.{laid};
+ghost use Rattle.octets.specs.Bytes.{laid};
 
 // Puts words at a place of the lent ones that have room for them there; all the other words stay.
 pub fn put_words(w: &mut [u32], at: usize, words: &[u32])

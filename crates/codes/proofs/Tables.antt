@@ -10,10 +10,10 @@ use lib.ListN.{take, drop}
 use mir.Syntax.{w32}
 use mir.Val.{Fits}
 use borrow.Author.Tests.{leb-true, le-leb}
-use Rattle.codes.specs.declared.meaning.Code.{Code}
-use Rattle.codes.specs.declared.meaning.Code.the-variants.{Of, Unknown}
-use Rattle.codes.specs.declared.meaning.Meaning.{Meaning}
-use Rattle.codes.specs.declared.meaning.Meaning.the-variants as means
+use Rattle.codes.specs.declared.Code.{Code}
+use Rattle.codes.specs.declared.Code.the-variants.{Of, Unknown}
+use Rattle.codes.specs.declared.Meaning.{Meaning}
+use Rattle.codes.specs.declared.Meaning.the-variants as means
 use Rattle.codes.specs.Codes.{Row, range, look, gRows, mRows, gCode, mCode}
 
 -- a row that does not hold n

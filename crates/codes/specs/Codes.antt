@@ -4,13 +4,13 @@ use mathlib.Core.Bool.{cond, _&&_}
 use mathlib.Core.List.{List, [], _∷_}
 use Prim.Native.Nat.{ℕ, _+_, _-_}
 use lib.Dec.{leb, eqb}
-use Rattle.codes.specs.declared.meaning.Code.{Code}
-use Rattle.codes.specs.declared.meaning.Code.the-variants.{Of, Unknown}
-use Rattle.codes.specs.declared.meaning.Meaning.{Meaning}
-use Rattle.codes.specs.declared.meaning.Meaning.the-variants as means
-use Rattle.codes.specs.declared.meaning.Motion.the-variants as motion
-use Rattle.codes.specs.declared.meaning.Steering.the-variants as steering
-use Rattle.codes.specs.declared.meaning.Flow.the-variants as flow
+use Rattle.codes.specs.declared.Code.{Code}
+use Rattle.codes.specs.declared.Code.the-variants.{Of, Unknown}
+use Rattle.codes.specs.declared.Meaning.{Meaning}
+use Rattle.codes.specs.declared.Meaning.the-variants as means
+use Rattle.codes.specs.declared.Motion.the-variants as motion
+use Rattle.codes.specs.declared.Steering.the-variants as steering
+use Rattle.codes.specs.declared.Flow.the-variants as flow
 
 -- the numbers from low to high are of a group, with a meaning
 pub record Row : Type 0 where

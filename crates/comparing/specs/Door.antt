@@ -5,7 +5,7 @@ use Prim.Native.Nat.{ℕ, _+_, _/_, _%_}
 use lib.Dec.{eqb}
 use lib.IntN.{ℤ}
 use Rattle.settings.specs.Wrong.{tableSize}
-use Rattle.settings.specs.Row.{at, mainAt, lowestSubroutineAt, retractAt, startXAt, startZAt, xLowestAt, xHighestAt, zLowestAt, zHighestAt, emptyCutsAt, pointsAt}
+use Rattle.panel.specs.Row.{at, mainAt, lowestSubroutineAt, retractAt, startXAt, startZAt, xLowestAt, xHighestAt, zLowestAt, zHighestAt, emptyCutsAt, pointsAt}
 use Rattle.answers.specs.declared.Answer.{Answer}
 use Rattle.answers.specs.declared.Answer.the-variants.{Complete, Alarm}
 

@@ -8,7 +8,7 @@ ghost use Rattle.stored.specs.Texts.{FromOne};
 const LIST: usize = moves::HEADER_SIZE + moves::RECORD_SIZE * moves::RECORD_LIMIT;
 
 // The table of places that is long enough for every tape.
-const PLACES: usize = reading::read::MOST_PLACES;
+const PLACES: usize = reading::MOST_PLACES;
 
 // What the words of a state and the tables of places hold before: any number does.
 const UNUSED_WORD: u32 = 1;
@@ -85,10 +85,10 @@ fn tells_answer(
 ) -> bool {
     let mut record = [0u8; moves::RECORD_SIZE];
     let told = board::tm02_next(tape, table, settings, places, state, &mut record);
-    if told < board::TOLD_OVER {
+    if told < packing::TOLD_OVER {
         return false;
     }
-    told - board::TOLD_OVER == packed
+    told - packing::TOLD_OVER == packed
 }
 
 // Whether each ask behind the last record tells the answer.

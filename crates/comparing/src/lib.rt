@@ -16,7 +16,7 @@ const TEXT: usize = listing::lines::LONGEST_HEAD
     + listing::lines::LONGEST_RECORD_LINE * moves::RECORD_LIMIT;
 
 // The longest table of places that is lent.
-const PLACES: usize = reading::read::MOST_PLACES;
+const PLACES: usize = reading::MOST_PLACES;
 
 // How the door packs its answer: a count and a place have 16 bits each, and the alarm the 8 above.
 pub const SIXTEEN_BITS: u64 = 65_536;
@@ -28,7 +28,7 @@ fn listing_text() -> [u8; TEXT] {
 }
 
 // The settings in the order of the door.
-pub fn settings_of(given: &[i32; ALL]) -> [i32; settings::row::COUNT]
+pub fn settings_of(given: &[i32; ALL]) -> [i32; panel::COUNT]
     ensures { λ r. ⌜ r ≡ settingsIn (now (given .entry)) ⌝ }
 {
     [

@@ -1,12 +1,12 @@
 // The next record of a drilling cycle.
-use bores::cursor::Cursor;
-use moves::record::Origin;
+use bores::Cursor;
+use moves::Origin;
 use passhand::Gave;
 ghost use mathlib.Core.Path.{_≡_};
 ghost use Prim.Native.Nat.{_≤_};
 ghost use lib.ListN.{length};
 ghost use Rattle.moves.specs.Form.{recordSize};
-ghost use Rattle.stages.specs.declared.cursor.Due.the-variants.{Drilling};
+ghost use Rattle.stages.specs.declared.Due.the-variants.{Drilling};
 ghost use Rattle.cyclewords.specs.Sizes.{dueWords};
 ghost use Rattle.cyclewords.specs.Drilled.{drillingOf};
 ghost use Rattle.passhand.specs.Gives.{hasNext, Put, Gives};
@@ -16,7 +16,7 @@ fn put_behind(due: &mut [u32], c: Cursor, stops: bool)
     requires { ⌜ length (now due) ≡ dueWords ⌝ }
     ensures { λ _. ⌜ Put stops (Drilling c) (now (due .exit)) ⌝ }
 {
-    if bores::cursor::is_over(c) & !stops {
+    if bores::is_over(c) & !stops {
         cells::put::put_words(due, 0, &handwords::empty_words());
         return;
     }
@@ -29,13 +29,13 @@ pub fn give(due: &mut [u32], record: &mut [u8], origin: Origin, stops: bool) -> 
     ensures { λ r. ⌜ Gives (hasNext (Drilling (drillingOf (now (due .entry))))) (Drilling (drillingOf (now (due .entry)))) origin stops (now (due .entry)) (now («record» .entry)) r (now (due .exit)) (now («record» .exit)) ⌝ }
 {
     let c = cyclewords::drilled::cursor_of(due);
-    if bores::cursor::is_over(c) {
+    if bores::is_over(c) {
         return Gave::Other;
     }
     if !drillable::is_fit(c) {
         return Gave::Unfit;
     }
-    let handed = bores::cursor::next(c);
+    let handed = bores::next(c);
     let what = handed.record;
     let behind = handed.rest;
     moves::list::put_record(record, what, origin);

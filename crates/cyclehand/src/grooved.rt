@@ -1,12 +1,12 @@
 // The next record of a grooving cycle.
-use moves::record::Origin;
+use moves::Origin;
 use passhand::Gave;
-use plunges::cursor::Cursor;
+use plunges::Cursor;
 ghost use mathlib.Core.Path.{_≡_};
 ghost use Prim.Native.Nat.{_≤_};
 ghost use lib.ListN.{length};
 ghost use Rattle.moves.specs.Form.{recordSize};
-ghost use Rattle.stages.specs.declared.cursor.Due.the-variants.{Grooving};
+ghost use Rattle.stages.specs.declared.Due.the-variants.{Grooving};
 ghost use Rattle.cyclewords.specs.Sizes.{dueWords};
 ghost use Rattle.cyclewords.specs.Grooved.{groovingOf};
 ghost use Rattle.passhand.specs.Gives.{hasNext, Put, Gives};
@@ -16,7 +16,7 @@ fn put_behind(due: &mut [u32], c: Cursor, stops: bool)
     requires { ⌜ length (now due) ≡ dueWords ⌝ }
     ensures { λ _. ⌜ Put stops (Grooving c) (now (due .exit)) ⌝ }
 {
-    if plunges::cursor::is_over(c) & !stops {
+    if plunges::is_over(c) & !stops {
         cells::put::put_words(due, 0, &handwords::empty_words());
         return;
     }
@@ -29,13 +29,13 @@ pub fn give(due: &mut [u32], record: &mut [u8], origin: Origin, stops: bool) -> 
     ensures { λ r. ⌜ Gives (hasNext (Grooving (groovingOf (now (due .entry))))) (Grooving (groovingOf (now (due .entry)))) origin stops (now (due .entry)) (now («record» .entry)) r (now (due .exit)) (now («record» .exit)) ⌝ }
 {
     let c = cyclewords::grooved::cursor_of(due);
-    if plunges::cursor::is_over(c) {
+    if plunges::is_over(c) {
         return Gave::Other;
     }
     if !groovable::is_fit(c) {
         return Gave::Unfit;
     }
-    let handed = plunges::cursor::next_alone(c);
+    let handed = plunges::next_alone(c);
     let what = handed.record;
     let behind = handed.rest;
     moves::list::put_record(record, what, origin);

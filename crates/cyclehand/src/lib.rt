@@ -1,6 +1,6 @@
 // The next record of the cycle that is due, whichever of the four it is. The paths of grooving and drilling stand here, those of turning and threading in `passhand`, with what an ask comes to.
 // All else that can be due is given by `inhand`: the record of a word, that of a deed that is no cycle, and M00 or M30 behind a cycle.
-use moves::record::Origin;
+use moves::Origin;
 pub use passhand::Gave;
 ghost use Prim.Native.Nat.{_≤_};
 ghost use mathlib.Core.Path.{_≡_};

@@ -5,19 +5,19 @@ use mathlib.Core.List.{List, [], _∷_, _++_}
 use Prim.Native.Nat.{ℕ}
 use lib.IntN.{ℤ, _+ℤ_}
 use Rattle.whole.specs.Signed.{along}
-use Rattle.whole.specs.declared.signed.Side.{Side}
-use Rattle.whole.specs.declared.signed.Side.the-variants.{Minus}
-use Rattle.moves.specs.declared.record.Record.{Record}
+use Rattle.whole.specs.declared.Side.{Side}
+use Rattle.whole.specs.declared.Side.the-variants.{Minus}
+use Rattle.moves.specs.declared.Record.{Record}
 use Rattle.axes.specs.Axis.{side}
 use Rattle.axes.specs.Goes.{rapidTo}
 use Rattle.axes.proofs.Moving.{rapid-moves, after-rapid}
 use Rattle.turning.specs.Turning.{row, passFor, passOn, passes, turning}
-use Rattle.turning.specs.declared.cycle.Turning as turns
+use Rattle.turning.specs.declared.Turning as turns
 use Rattle.threading.proofs.Counts.{threading-last}
 use Rattle.grooving.specs.Grooving.{cuts, cutting, dwelling, plunge, plunges, afterFirst, steps, grooving, outTo}
-use Rattle.grooving.specs.declared.groove.Groove.{Groove}
+use Rattle.grooving.specs.declared.Groove.{Groove}
 use Rattle.drilling.specs.Drilling as drill
-use Rattle.drilling.specs.declared.bore.Bore.{Bore}
+use Rattle.drilling.specs.declared.Bore.{Bore}
 use Rattle.cycles.specs.declared.Cycle.{Cycle}
 use Rattle.cycles.specs.declared.Cycle.the-variants.{Turning, Threading, Grooving, Drilling}
 use Rattle.cycles.specs.Cycle.{records}

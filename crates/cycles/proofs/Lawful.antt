@@ -8,18 +8,18 @@ use native.Mathlib.Omega.{arith}
 use lib.Dec.{eqb}
 use lib.ListN.{length}
 use Rattle.moves.specs.Form.{AllFitting}
-use Rattle.turning.specs.declared.cycle.Turning as turns
+use Rattle.turning.specs.declared.Turning as turns
 use Rattle.turning.specs.Turning as turn
 use Rattle.turning.proofs.Asked.{long-enough}
 use Rattle.turning.proofs.Counts as turn-laws
-use Rattle.threading.specs.declared.thread.Thread.{Thread}
+use Rattle.threading.specs.declared.Thread.{Thread}
 use Rattle.threading.specs.Threading as thread
 use Rattle.threading.proofs.Counts as thread-laws
-use Rattle.grooving.specs.declared.groove.Groove.{Groove}
+use Rattle.grooving.specs.declared.Groove.{Groove}
 use Rattle.grooving.specs.Grooving as groove
 use Rattle.grooving.proofs.Counts as groove-laws
 use Rattle.grooving.proofs.Rows.{few-steps, few-plunge}
-use Rattle.drilling.specs.declared.bore.Bore.{Bore}
+use Rattle.drilling.specs.declared.Bore.{Bore}
 use Rattle.drilling.specs.Drilling as drill
 use Rattle.drilling.proofs.Asked.{stroke-fits}
 use Rattle.drilling.proofs.Counts as drill-laws

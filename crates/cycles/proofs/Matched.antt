@@ -3,7 +3,7 @@
 use mathlib.Core.Path.{_≡_, sym, ap, _∙_, subst}
 use mathlib.Core.Bool.{false}
 use lib.ListN.{length}
-use Rattle.settings.specs.declared.limits.Limits.{Limits}
+use Rattle.settings.specs.declared.Limits.{Limits}
 use Rattle.axes.specs.Limits.{anyOutside}
 use Rattle.cycles.specs.declared.Cycle.{Cycle}
 use Rattle.cycles.specs.Cycle.{wrong, records}

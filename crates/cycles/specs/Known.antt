@@ -2,7 +2,7 @@
 use Prim.Native.Nat.{_<_, _^_}
 use mir.Syntax.{w32}
 use mir.Val.{SFits}
-use Rattle.moves.specs.declared.record.Record.{Record}
+use Rattle.moves.specs.declared.Record.{Record}
 use Rattle.axes.specs.Goes.{rapidTo}
 use Rattle.threading.specs.Threading as thread
 use Rattle.grooving.specs.Grooving as groove

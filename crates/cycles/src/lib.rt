@@ -1,10 +1,10 @@
 // The cycles as one family. Whoever runs a block asks a cycle what is asked here, and never which cycle it is.
 // A new cycle is a crate of its own, a row in the table of `codes` and in that of `acts`, the function of `scaling` that gives it its numbers and its clause in `deeds`, and one arm in each function below and in the block's cursor (`stages`, `opening`, `handing`).
-use drilling::bore::Bore;
-use grooving::groove::Groove;
-use settings::limits::Limits;
-use threading::thread::Thread;
-use turning::cycle::Turning;
+use drilling::Bore;
+use grooving::Groove;
+use settings::Limits;
+use threading::Thread;
+use turning::Turning;
 ghost use mathlib.Core.Path.{_≡_};
 ghost use mathlib.Core.Bool.{false};
 ghost use lib.ListN.{length};
@@ -31,10 +31,10 @@ pub fn is_wrong(c: Cycle) -> bool
     ensures { λ r. ⌜ r ≡ wrong c ⌝ }
 {
     match c {
-        Cycle::Turning(t) => turning::cycle::is_wrong(t),
-        Cycle::Threading(t) => threading::thread::is_wrong(t),
-        Cycle::Grooving(g) => grooving::groove::is_wrong(g),
-        Cycle::Drilling(b) => drilling::bore::is_wrong(b),
+        Cycle::Turning(t) => turning::is_wrong(t),
+        Cycle::Threading(t) => threading::is_wrong(t),
+        Cycle::Grooving(g) => grooving::is_wrong(g),
+        Cycle::Drilling(b) => drilling::is_wrong(b),
     }
 }
 
@@ -56,10 +56,10 @@ pub fn ends_outside(c: Cycle, l: Limits) -> bool
     ensures { λ r. ⌜ r ≡ anyOutside l (records c) ⌝ }
 {
     match c {
-        Cycle::Turning(t) => turning::cycle::ends_outside(t, l),
-        Cycle::Threading(t) => threading::thread::ends_outside(t, l),
-        Cycle::Grooving(g) => grooving::groove::ends_outside(g, l),
-        Cycle::Drilling(b) => drilling::bore::ends_outside(b, l),
+        Cycle::Turning(t) => turning::ends_outside(t, l),
+        Cycle::Threading(t) => threading::ends_outside(t, l),
+        Cycle::Grooving(g) => grooving::ends_outside(g, l),
+        Cycle::Drilling(b) => drilling::ends_outside(b, l),
     }
 }
 
@@ -69,9 +69,9 @@ pub fn record_count(c: Cycle) -> u64
     ensures { λ r. ⌜ r ≡ length (records c) ⌝ }
 {
     match c {
-        Cycle::Turning(t) => turning::cycle::record_count(t),
-        Cycle::Threading(t) => threading::thread::record_count(t),
-        Cycle::Grooving(g) => grooving::groove::record_count(g),
-        Cycle::Drilling(b) => drilling::bore::record_count(b),
+        Cycle::Turning(t) => turning::record_count(t),
+        Cycle::Threading(t) => threading::record_count(t),
+        Cycle::Grooving(g) => grooving::record_count(g),
+        Cycle::Drilling(b) => drilling::record_count(b),
     }
 }

@@ -3,10 +3,10 @@ use mathlib.Core.Bool.{cond}
 use mathlib.Core.List.{List}
 use Prim.Native.Nat.{ℕ, _+_}
 use lib.Dec.{eqb}
-use Rattle.drilling.specs.declared.bore.Bore.{Bore}
-use Rattle.bores.specs.declared.cursor.Cursor.{Cursor}
-use Rattle.bores.specs.declared.cursor.Stage.{Stage}
-use Rattle.bores.specs.declared.cursor.Stage.the-variants.{Bite, Home, Back, Dwell, Out, Over}
+use Rattle.drilling.specs.declared.Bore.{Bore}
+use Rattle.bores.specs.declared.Cursor.{Cursor}
+use Rattle.bores.specs.declared.Stage.{Stage}
+use Rattle.bores.specs.declared.Stage.the-variants.{Bite, Home, Back, Dwell, Out, Over}
 use Rattle.cells.specs.Numbers.{at, flagAt, signedAt}
 
 abbrev pub drillingTag : ℕ

@@ -3,11 +3,11 @@ use mathlib.Core.Bool.{cond}
 use mathlib.Core.List.{List}
 use Prim.Native.Nat.{ℕ, _+_}
 use lib.Dec.{eqb}
-use Rattle.grooving.specs.declared.groove.Way.{Way}
-use Rattle.grooving.specs.declared.groove.Groove.{Groove}
-use Rattle.plunges.specs.declared.cursor.Cursor.{Cursor}
-use Rattle.plunges.specs.declared.cursor.Stage.{Stage}
-use Rattle.plunges.specs.declared.cursor.Stage.the-variants.{Cut, Back, Dwell, Out, Across, Over}
+use Rattle.grooving.specs.declared.Way.{Way}
+use Rattle.grooving.specs.declared.Groove.{Groove}
+use Rattle.plunges.specs.declared.Cursor.{Cursor}
+use Rattle.plunges.specs.declared.Stage.{Stage}
+use Rattle.plunges.specs.declared.Stage.the-variants.{Cut, Back, Dwell, Out, Across, Over}
 use Rattle.cells.specs.Numbers.{at, flagAt, signedAt, piecesAt}
 
 abbrev pub groovingTag : ℕ

@@ -3,13 +3,13 @@ use mathlib.Core.Bool.{cond}
 use mathlib.Core.List.{List}
 use Prim.Native.Nat.{ℕ, _+_}
 use lib.Dec.{eqb}
-use Rattle.depths.specs.declared.cuts.Falling.{Falling}
-use Rattle.depths.specs.declared.cuts.Cuts.{Cuts}
-use Rattle.depths.specs.declared.cuts.Cuts.the-variants.{Even, ByDepth, ByNumber}
-use Rattle.threading.specs.declared.passes.Pass.{Pass}
-use Rattle.threads.specs.declared.cursor.Cursor.{Cursor}
-use Rattle.threads.specs.declared.cursor.Stage.{Stage}
-use Rattle.threads.specs.declared.cursor.Stage.the-variants.{In, Cut, Out, Back}
+use Rattle.cuts.specs.declared.Falling.{Falling}
+use Rattle.cuts.specs.declared.Cuts.{Cuts}
+use Rattle.cuts.specs.declared.Cuts.the-variants.{Even, ByDepth, ByNumber}
+use Rattle.threading.specs.declared.Pass.{Pass}
+use Rattle.threads.specs.declared.Cursor.{Cursor}
+use Rattle.threads.specs.declared.Stage.{Stage}
+use Rattle.threads.specs.declared.Stage.the-variants.{In, Cut, Out, Back}
 use Rattle.cells.specs.Numbers.{at, flagAt, signedAt, wideAt, sideOf, piecesAt}
 
 abbrev pub threadingTag : ℕ

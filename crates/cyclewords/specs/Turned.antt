@@ -3,10 +3,10 @@ use mathlib.Core.Bool.{cond}
 use mathlib.Core.List.{List}
 use Prim.Native.Nat.{ℕ, _+_}
 use lib.Dec.{eqb}
-use Rattle.turning.specs.declared.passes.Pass.{Pass}
-use Rattle.turning.specs.declared.cursor.Cursor.{Cursor}
-use Rattle.turning.specs.declared.cursor.Stage.{Stage}
-use Rattle.turning.specs.declared.cursor.Stage.the-variants.{In, Cut, Out, Back}
+use Rattle.turning.specs.declared.Pass.{Pass}
+use Rattle.passes.specs.declared.Cursor.{Cursor}
+use Rattle.passes.specs.declared.Stage.{Stage}
+use Rattle.passes.specs.declared.Stage.the-variants.{In, Cut, Out, Back}
 use Rattle.cells.specs.Numbers.{at, flagAt, signedAt, sideOf, piecesAt}
 
 abbrev pub turningTag : ℕ

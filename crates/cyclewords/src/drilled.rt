@@ -1,8 +1,8 @@
 // A drilling cycle in words.
 use crate::DUE_WORDS;
-use bores::cursor::Cursor;
-use bores::cursor::Stage;
-use drilling::bore::Bore;
+use bores::Cursor;
+use bores::Stage;
+use drilling::Bore;
 ghost use mathlib.Core.Path.{_≡_};
 ghost use lib.ListN.{length};
 ghost use Rattle.cells.specs.Numbers.{at};

@@ -1,9 +1,9 @@
 // A grooving cycle in words.
 use crate::DUE_WORDS;
-use grooving::groove::Groove;
-use grooving::groove::Way;
-use plunges::cursor::Cursor;
-use plunges::cursor::Stage;
+use grooving::Groove;
+use grooving::Way;
+use plunges::Cursor;
+use plunges::Stage;
 ghost use mathlib.Core.Path.{_≡_};
 ghost use Prim.Native.Nat.{_+_, _≤_};
 ghost use lib.ListN.{length};

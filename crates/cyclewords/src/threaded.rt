@@ -1,8 +1,8 @@
 // A threading cycle in words.
 use crate::DUE_WORDS;
-use threading::passes::Pass;
-use threads::cursor::Cursor;
-use threads::cursor::Stage;
+use threading::Pass;
+use threads::Cursor;
+use threads::Stage;
 ghost use mathlib.Core.Path.{_≡_};
 ghost use lib.ListN.{length};
 ghost use Rattle.cells.specs.Numbers.{at, signedAt, sideOf};
@@ -66,7 +66,7 @@ pub fn words_of(hand: u32, c: Cursor) -> [u32; DUE_WORDS]
     let left = c.cuts;
     let present = c.stage;
     let front = front_words(c);
-    let cuts = crate::cuts::words_of(left);
+    let cuts = crate::cutting::words_of(left);
     let stage = stage_word(present);
     [
         hand,
@@ -118,7 +118,7 @@ pub fn cursor_of(w: &[u32]) -> Cursor
 {
     let pass = pass_of(w);
     let side = cells::figures::side_of(w[7]);
-    let cuts = crate::cuts::cuts_at(w, 10);
+    let cuts = crate::cutting::cuts_at(w, 10);
     let stage = stage_of(w[19]);
     Cursor {
         pass,

@@ -1,8 +1,8 @@
 // A turning cycle in words.
 use crate::DUE_WORDS;
-use turning::cursor::Cursor;
-use turning::cursor::Stage;
-use turning::passes::Pass;
+use passes::Cursor;
+use passes::Stage;
+use turning::Pass;
 ghost use mathlib.Core.Path.{_≡_};
 ghost use lib.ListN.{length};
 ghost use Rattle.cells.specs.Numbers.{at, signedAt, sideOf};

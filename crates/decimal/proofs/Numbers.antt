@@ -8,8 +8,8 @@ use native.Mathlib.Omega.{arith}
 use lib.IntN.{ℤ, pos, natAbs}
 use lib.ListN.{length, set, length-append}
 use lib.Signed.{ltZ}
-use Rattle.whole.specs.Bytes.{laid}
-use Rattle.whole.proofs.Laying.{laid-nil, length-laid}
+use Rattle.octets.specs.Bytes.{laid}
+use Rattle.octets.proofs.Laying.{laid-nil, length-laid}
 use Rattle.letters.specs.Letters.{minusSign, digitZero}
 use Rattle.decimal.specs.Decimal.{digits, decimal, signed}
 use Rattle.decimal.specs.Wrote.{Wrote}

@@ -8,8 +8,8 @@ use native.Mathlib.Numerals.{add-one}
 use native.Mathlib.Omega.{arith}
 use lib.ListN.{length, getD, set, drop, take, length-append, length-drop, drop-of-length-le}
 use lib.Seq.{set-split, drop-cons}
-use Rattle.whole.specs.Bytes.{laid}
-use Rattle.whole.proofs.Laying.{laid-nil, laid-on, length-laid}
+use Rattle.octets.specs.Bytes.{laid}
+use Rattle.octets.proofs.Laying.{laid-nil, laid-on, length-laid}
 use Rattle.decimal.specs.Wrote.{Wrote}
 
 -- ---- one byte

@@ -93,7 +93,7 @@ pub fn put_signed(out: &mut [u8], at: usize, n: i32, behind: u8) -> usize
     requires { ⌜ at + length (signed n ++ (behind ∷ [])) ≤ length (now out) ⌝ }
     ensures { λ r. ⌜ Wrote (now (out .entry)) at (signed n ++ (behind ∷ [])) r (now (out .exit)) ⌝ }
 {
-    let size = whole::signed::magnitude(n) as usize;
+    let size = whole::magnitude(n) as usize;
     if n < 0 {
         let next = put_byte(out, at, b'-');
         return put_number(out, next, size, behind);

@@ -10,26 +10,26 @@ use mir.Val.{SFits}
 use Rattle.moves.specs.Form.{Fitting}
 use Rattle.moves.specs.Kinds.{rapid, feed, thread}
 use Rattle.moves.proofs.Last.{Moves}
-use Rattle.moves.specs.declared.record.Record.{Record}
-use Rattle.codes.specs.declared.meaning.Motion.the-variants as motion
-use Rattle.block.specs.declared.words.Block.{Block}
+use Rattle.moves.specs.declared.Record.{Record}
+use Rattle.codes.specs.declared.Motion.the-variants as motion
+use Rattle.block.specs.declared.Block.{Block}
 use Rattle.block.specs.Slots.{has, dSlot}
-use Rattle.acts.specs.declared.acting.Kept.{Kept}
-use Rattle.acts.specs.declared.acting.Kept.the-variants as kept
+use Rattle.acts.specs.declared.Kept.{Kept}
+use Rattle.acts.specs.declared.Kept.the-variants as kept
 use Rattle.arcs.specs.Arcs.{arcOf}
 use Rattle.arcs.proofs.Ranges.{in-reach, limits-in-reach, centre-in-x, centre-in-z}
 use Rattle.axes.specs.Goes.{rapidTo}
-use Rattle.axes.specs.declared.axis.Axis.{Axis}
+use Rattle.axes.specs.declared.Axis.{Axis}
 use Rattle.depths.specs.Depths.{greatestD}
 use Rattle.threading.proofs.Counts.{bottom-fits}
-use Rattle.turning.specs.declared.cycle.Turning as turns
-use Rattle.grooving.specs.declared.groove.Groove.{Groove}
+use Rattle.turning.specs.declared.Turning as turns
+use Rattle.grooving.specs.declared.Groove.{Groove}
 use Rattle.cycles.specs.Cycle as cycle
 use Rattle.cycles.specs.Known.{home}
 use Rattle.cycles.specs.declared.Cycle as cycles
 use Rattle.cycles.specs.declared.Cycle.the-variants.{Turning, Threading, Grooving, Drilling}
-use Rattle.deeds.specs.declared.deed.Deed.{Deed}
-use Rattle.deeds.specs.declared.deed.Deed.the-variants.{Nothing, Nowhere, Dwell, Straight, Round, Cycle}
+use Rattle.deeds.specs.declared.Deed.{Deed}
+use Rattle.deeds.specs.declared.Deed.the-variants.{Nothing, Nowhere, Dwell, Straight, Round, Cycle}
 use Rattle.scaling.specs.declared.Sending.{Sending}
 use Rattle.deeds.specs.Deed.{hasPath, hasCentre, straightIf, startSpot, endSpot, centreWords, roundOf, roundIf, moveOf, deedOf}
 use Rattle.scaling.specs.Scaled.{isFacing, dWord, turningOf, xBare, zBare, emptyCuts, threadOf, grooveOf, boreOf}

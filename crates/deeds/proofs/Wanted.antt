@@ -3,16 +3,16 @@
 use mathlib.Core.Path.{_≡_, refl}
 use mathlib.Core.Bool.{Bool, true, false, cond}
 use Prim.Native.Nat.{ℕ}
-use Rattle.codes.specs.declared.meaning.Motion.the-variants as motion
-use Rattle.block.specs.declared.words.Block.{Block}
-use Rattle.state.specs.Target.{targetX, targetZ}
-use Rattle.state.specs.declared.modal.State.{State}
-use Rattle.state.specs.declared.target.Pair.{Pair}
+use Rattle.codes.specs.declared.Motion.the-variants as motion
+use Rattle.block.specs.declared.Block.{Block}
+use Rattle.targets.specs.Target.{targetX, targetZ}
+use Rattle.state.specs.declared.State.{State}
+use Rattle.targets.specs.declared.Pair.{Pair}
 use Rattle.arcs.specs.Arcs.{arcOf}
 use Rattle.scaling.specs.Wanted.{arcWanted}
 use Rattle.scaling.proofs.Wanted.{sent}
-use Rattle.deeds.specs.declared.deed.Deed.the-variants as deed
-use Rattle.deeds.specs.declared.deed.Round.{Round}
+use Rattle.deeds.specs.declared.Deed.the-variants as deed
+use Rattle.deeds.specs.declared.Round.{Round}
 use Rattle.deeds.specs.Deed.{hasPath, roundOf, roundIf, moveOf}
 
 -- the arc that is wanted, with the feed in force

@@ -3,24 +3,24 @@
 use mathlib.Core.Bool.{Bool, true, false, cond, _||_}
 use Prim.Native.Nat.{ℕ}
 use Rattle.block.specs.Slots.{has, xSlot, zSlot, uSlot, wSlot, iSlot, kSlot}
-use Rattle.codes.specs.declared.meaning.Motion.{Motion}
-use Rattle.codes.specs.declared.meaning.Motion.the-variants as motion
-use Rattle.block.specs.declared.words.Block.{Block}
-use Rattle.state.specs.Target.{wordIn}
+use Rattle.codes.specs.declared.Motion.{Motion}
+use Rattle.codes.specs.declared.Motion.the-variants as motion
+use Rattle.block.specs.declared.Block.{Block}
+use Rattle.targets.specs.Target.{wordIn}
 use Rattle.arcs.specs.Arcs.{arcOf}
-use Rattle.arrows.specs.declared.arrow.Spot.{Spot}
-use Rattle.arcs.specs.declared.arc.CentreWords.{CentreWords}
-use Rattle.acts.specs.declared.acting.Kept.{Kept}
-use Rattle.acts.specs.declared.acting.Kept.the-variants as kept
+use Rattle.arrows.specs.declared.Spot.{Spot}
+use Rattle.arcs.specs.declared.CentreWords.{CentreWords}
+use Rattle.acts.specs.declared.Kept.{Kept}
+use Rattle.acts.specs.declared.Kept.the-variants as kept
 use Rattle.moves.specs.Kinds.{rapid, feed, thread, dwell}
-use Rattle.moves.specs.declared.record.Record.{Record}
+use Rattle.moves.specs.declared.Record.{Record}
 use Rattle.cycles.specs.Feeds.{leastOfFeed, leastOfPitch}
 use Rattle.cycles.specs.declared.Cycle.the-variants as cycle
 use Rattle.scaling.specs.Scaled.{dWord, turningOf, threadOf, grooveOf, boreOf}
 use Rattle.scaling.specs.declared.Sending.{Sending}
-use Rattle.deeds.specs.declared.deed.Deed.{Deed}
-use Rattle.deeds.specs.declared.deed.Deed.the-variants as deed
-use Rattle.deeds.specs.declared.deed.Round.{Round}
+use Rattle.deeds.specs.declared.Deed.{Deed}
+use Rattle.deeds.specs.declared.Deed.the-variants as deed
+use Rattle.deeds.specs.declared.Round.{Round}
 
 -- a path word: X U Z W
 unfoldable pub hasPath : Block → Bool

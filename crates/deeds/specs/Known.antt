@@ -8,17 +8,17 @@ use mir.Syntax.{w32}
 use mir.Val.{SFits}
 use Rattle.whole.specs.Position.{tableLeast, tableGreatest}
 use Rattle.settings.specs.Known.{SpanIn}
-use Rattle.settings.specs.declared.limits.Limits.{Limits}
+use Rattle.settings.specs.declared.Limits.{Limits}
 use Rattle.moves.specs.Form.{Fitting}
-use Rattle.block.specs.declared.words.Block.{Block}
+use Rattle.block.specs.declared.Block.{Block}
 use Rattle.arcs.specs.Arcs.{uneven}
 use Rattle.arcs.specs.Known.{InReach, LimitsInReach, Central}
 use Rattle.cycles.specs.Cycle as cycle
 use Rattle.cycles.specs.Known as cycles
 use Rattle.deeds.specs.Deed.{startSpot, centreWords}
-use Rattle.deeds.specs.declared.deed.Deed.{Deed}
-use Rattle.deeds.specs.declared.deed.Deed.the-variants.{Nothing, Nowhere, Dwell, Straight, Round, Cycle}
-use Rattle.deeds.specs.declared.deed.Round as rounds
+use Rattle.deeds.specs.declared.Deed.{Deed}
+use Rattle.deeds.specs.declared.Deed.the-variants.{Nothing, Nowhere, Dwell, Straight, Round, Cycle}
+use Rattle.deeds.specs.declared.Round as rounds
 use Rattle.scaling.specs.declared.Sending.{Sending}
 
 -- the I and K words of a block that was read, and where the axes stand: all in the table's range

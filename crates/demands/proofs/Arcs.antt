@@ -12,31 +12,31 @@ use Rattle.whole.specs.Position.{inTable}
 use Rattle.moves.specs.Last.{lastOf}
 use Rattle.moves.specs.Form.{whats}
 use Rattle.moves.specs.Reading.{rowIn}
-use Rattle.moves.specs.declared.record.Record.{Record}
-use Rattle.acts.specs.declared.acting.Kept as keeping
+use Rattle.moves.specs.declared.Record.{Record}
+use Rattle.acts.specs.declared.Kept as keeping
 use Rattle.block.specs.Slots.{has, anyOf, anyIn, pathSlots, xSlot, zSlot, uSlot, wSlot, sSlot, tSlot, spindleSlot, flowSlot, coolantSlot}
-use Rattle.block.specs.declared.words.Block.{Block}
+use Rattle.block.specs.declared.Block.{Block}
 use Rattle.settings.specs.Limits.{outside, outsideSpan}
 use Rattle.settings.specs.Points.{withPoints}
 use Rattle.settings.specs.Wrong.{greatestRetract, greatestEmptyCuts, spanWrong, numbersWrong, tableWrong, settingsWrong}
-use Rattle.settings.specs.declared.control.Settings.{Settings}
-use Rattle.settings.specs.declared.limits.Limits.{Limits}
-use Rattle.settings.specs.declared.limits.Span.{Span}
+use Rattle.settings.specs.declared.Settings.{Settings}
+use Rattle.settings.specs.declared.Limits.{Limits}
+use Rattle.settings.specs.declared.Span.{Span}
 use Rattle.axes.proofs.Every.{Every}
 use Rattle.axes.proofs.Places.{neither, both}
 use Rattle.arcs.specs.Arcs.{arcRecords}
 use Rattle.straying.specs.Rows.{ArcsKeep}
-use Rattle.arcs.specs.declared.arc.Arc.{Arc}
+use Rattle.arcs.specs.declared.Arc.{Arc}
 use Rattle.straying.proofs.Rows.{Plain, Kept, none, other, plain-kept, arc-kept, joined-kept, arcs-keep}
 use Rattle.cycles.specs.Cycle.{records}
 use Rattle.state.specs.Modal.{blockMotion, settled}
-use Rattle.state.specs.Target.{offsetOf}
-use Rattle.state.specs.declared.modal.State.{State}
+use Rattle.targets.specs.Target.{offsetOf}
+use Rattle.state.specs.declared.State.{State}
 use Rattle.deeds.specs.Deed.{hasPath, deedOf}
 use Rattle.deeds.specs.Known.{Right}
 use Rattle.scaling.specs.Wanted.{arcWanted}
-use Rattle.deeds.specs.declared.deed.Deed.{Deed}
-use Rattle.deeds.specs.declared.deed.Deed.the-variants as deed
+use Rattle.deeds.specs.declared.Deed.{Deed}
+use Rattle.deeds.specs.declared.Deed.the-variants as deed
 use Rattle.scaling.specs.declared.Sending.{Sending}
 use Rattle.deeds.proofs.Made.{Starts, starts}
 use Rattle.deeds.proofs.Wanted.{is-arc-wanted}
@@ -49,7 +49,7 @@ use Rattle.machine.proofs.Running.{stands-inside}
 use Rattle.ahead.specs.Ahead.{mostCalls, onto}
 use Rattle.ahead.specs.declared.ProgramAt.{ProgramAt}
 use Rattle.taking.specs.Steps.{Task, taskOf, Step, blockOn, runAfter}
-use Rattle.taking.specs.declared.step.Run.{Run}
+use Rattle.taking.specs.declared.Run.{Run}
 use Rattle.runners.specs.Runs.{recordsOf, programRun}
 use Rattle.runners.proofs.Going.{listed-whats}
 use Rattle.answers.specs.Answers.{startOf}

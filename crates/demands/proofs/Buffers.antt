@@ -8,24 +8,24 @@ use native.Mathlib.Omega.{arith}
 use lib.IntN.{ℤ}
 use lib.ListN.{length, take, drop, length-append}
 use lib.Seq.{length-take-le, take-at, drop-at}
-use Rattle.whole.specs.Bytes.{laid}
+use Rattle.octets.specs.Bytes.{laid}
 use Rattle.moves.specs.Form.{headerSize, recordStart, headerBytes, rowBytes, stamped, whats, AllFitting, FittingOrigin, AllListed}
 use Rattle.moves.specs.Reading.{rowAt, recordsIn}
-use Rattle.moves.specs.declared.record.Record.{Record}
-use Rattle.moves.specs.declared.record.Origin.{Origin}
-use Rattle.moves.specs.declared.record.Listed.{Listed}
+use Rattle.moves.specs.declared.Record.{Record}
+use Rattle.moves.specs.declared.Origin.{Origin}
+use Rattle.moves.specs.declared.Listed.{Listed}
 use Rattle.moves.proofs.OneReading.{length-row, length-header, row-append, read-after, length-stamped, whats-append, whats-stamped}
 use Rattle.settings.specs.Known.{Table}
 use Rattle.state.specs.Known.{Sound}
-use Rattle.state.proofs.Ranges.{start-sound}
+use Rattle.targets.proofs.Ranges.{start-sound}
 use Rattle.settings.specs.Known.{InRange}
 use Rattle.settings.specs.Points.{withPoints}
-use Rattle.settings.specs.declared.control.Settings.{Settings}
+use Rattle.settings.specs.declared.Settings.{Settings}
 use Rattle.machine.proofs.Running.{sound-after}
 use Rattle.ahead.specs.Ahead.{mostCalls, onto, FoundAt}
 use Rattle.ahead.specs.declared.ProgramAt.{ProgramAt}
 use Rattle.taking.specs.Steps.{Task, taskOf, Step, listedBy, blockOn, runAfter}
-use Rattle.taking.specs.declared.step.Run.{Run}
+use Rattle.taking.specs.declared.Run.{Run}
 use Rattle.taking.proofs.Lines.{worded-on}
 use Rattle.interpreter.specs.Answers.{Result, refused, resultOf, mainAt, interpretation, laidBy}
 use Rattle.answers.specs.Answers.{answerBy, startOf, headed}
@@ -35,8 +35,8 @@ use Rattle.answers.specs.declared.Answer.the-variants.{Complete, Alarm}
 use Rattle.demands.specs.Demands.{Each, EachFrom, StandsIn, task}
 use Rattle.demands.specs.Steps.{Done, Linked}
 use Rattle.demands.proofs.Cycles.{every-step}
-use Rattle.block.specs.declared.words.Block.{Block}
-use Rattle.state.specs.declared.modal.State.{State}
+use Rattle.block.specs.declared.Block.{Block}
+use Rattle.state.specs.declared.State.{State}
 use Rattle.verdicts.specs.Verdicts.{alarmIn}
 use Rattle.machine.specs.Blocks.{doneRecords}
 use Rattle.demands.proofs.Fits.{block-fitting, feed-after}

@@ -6,34 +6,34 @@ use mathlib.Core.List.{List, [], _∷_}
 use Prim.Native.Nat.{ℕ}
 use lib.IntN.{ℤ, _+ℤ_}
 use Rattle.whole.specs.Signed.{along}
-use Rattle.whole.specs.declared.signed.Side.{Side}
+use Rattle.whole.specs.declared.Side.{Side}
 use Rattle.moves.specs.Kinds.{rapid, feed, thread, dwell}
-use Rattle.moves.specs.declared.record.Record.{Record}
-use Rattle.codes.specs.declared.meaning.Motion.the-variants as motion
-use Rattle.acts.specs.declared.acting.Kept.{Kept}
-use Rattle.acts.specs.declared.acting.Kept.the-variants as kept
-use Rattle.block.specs.declared.words.Block.{Block}
+use Rattle.moves.specs.declared.Record.{Record}
+use Rattle.codes.specs.declared.Motion.the-variants as motion
+use Rattle.acts.specs.declared.Kept.{Kept}
+use Rattle.acts.specs.declared.Kept.the-variants as kept
+use Rattle.block.specs.declared.Block.{Block}
 use Rattle.axes.specs.Goes.{rapidTo, feedTo, threadTo, dwellAt}
 use Rattle.turning.specs.Turning as turn
-use Rattle.turning.specs.declared.cycle.Turning as turns
-use Rattle.turning.specs.declared.passes.Pass as passes
+use Rattle.turning.specs.declared.Turning as turns
+use Rattle.turning.specs.declared.Pass as passes
 use Rattle.threading.specs.Threading as thread-of
-use Rattle.threading.specs.declared.thread.Thread.{Thread}
-use Rattle.threading.specs.declared.passes.Pass as thread-passes
+use Rattle.threading.specs.declared.Thread.{Thread}
+use Rattle.threading.specs.declared.Pass as thread-passes
 use Rattle.grooving.specs.Grooving as groove
-use Rattle.grooving.specs.declared.groove.Groove.{Groove}
+use Rattle.grooving.specs.declared.Groove.{Groove}
 use Rattle.grooving.proofs.Each.{grooving-every}
 use Rattle.axes.proofs.Every.{Every}
 use Rattle.drilling.specs.Drilling as drill
-use Rattle.drilling.specs.declared.bore.Bore.{Bore}
+use Rattle.drilling.specs.declared.Bore.{Bore}
 use Rattle.drilling.proofs.Each.{drilling-every}
 use Rattle.cycles.specs.Cycle.{wrong, records}
 use Rattle.cycles.specs.declared.Cycle.{Cycle}
 use Rattle.cycles.specs.declared.Cycle.the-variants as cycle
 use Rattle.deeds.specs.Deed.{hasPath, hasCentre, straightIf, roundIf, moveOf, deedOf}
 use Rattle.scaling.specs.Scaled.{dWord}
-use Rattle.deeds.specs.declared.deed.Deed.{Deed}
-use Rattle.deeds.specs.declared.deed.Deed.the-variants as deed
+use Rattle.deeds.specs.declared.Deed.{Deed}
+use Rattle.deeds.specs.declared.Deed.the-variants as deed
 use Rattle.scaling.specs.declared.Sending.{Sending}
 
 -- what holds of every record of these kinds

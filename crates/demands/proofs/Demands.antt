@@ -6,11 +6,11 @@ use mathlib.Core.List.{List, [], _∷_}
 use Prim.Native.Nat.{ℕ, _+_, _<_}
 use lib.IntN.{ℤ}
 use lib.ListN.{length, take}
-use Rattle.moves.specs.declared.record.Record.{Record}
-use Rattle.block.specs.declared.words.Block.{Block}
+use Rattle.moves.specs.declared.Record.{Record}
+use Rattle.block.specs.declared.Block.{Block}
 use Rattle.settings.specs.Points.{withPoints}
-use Rattle.settings.specs.declared.control.Settings.{Settings}
-use Rattle.state.specs.declared.modal.State.{State}
+use Rattle.settings.specs.declared.Settings.{Settings}
+use Rattle.state.specs.declared.State.{State}
 use Rattle.turning.specs.Turned.{Turned}
 use Rattle.threading.specs.Threaded.{Threaded}
 use Rattle.verdicts.specs.Verdicts.{alarmIn}
@@ -21,8 +21,8 @@ use Rattle.taking.specs.Steps.{Task, taskOf, Step, blockOn}
 use Rattle.answers.specs.Answers.{countOf, answerBy, startOf}
 use Rattle.interpreter.specs.Answers.{Result, refused, resultOf, mainAt, interpretation}
 use Rattle.runners.specs.Runs.{programRun}
-use Rattle.runners.specs.declared.run.Ending.{Ending}
-use Rattle.runners.specs.declared.run.Ending.the-variants.{Returned, Ended, Stopped}
+use Rattle.runners.specs.declared.Ending.{Ending}
+use Rattle.runners.specs.declared.Ending.the-variants.{Returned, Ended, Stopped}
 use Rattle.demands.specs.Opens.{opensTurning, wantedIn, opensThreading, threadIn}
 use Rattle.demands.specs.Demands.{Each, EachFrom, task, DemandThree, DemandThreeInBuffer, ThreadPromise, ThreadPromiseInBuffer}
 use Rattle.demands.proofs.Buffers.{every-read}

@@ -13,24 +13,24 @@ use Rattle.whole.specs.Position.{inTable}
 use Rattle.whole.proofs.Integers.{whole}
 use Rattle.whole.proofs.Positions.{in-range}
 use Rattle.moves.specs.Form.{Fitting, AllFitting}
-use Rattle.moves.specs.declared.record.Record.{Record}
+use Rattle.moves.specs.declared.Record.{Record}
 use Rattle.block.specs.Slots.{has, fSlot, sSlot, tSlot, spindleSlot, flowSlot, coolantSlot, codeIn, gIn}
 use Rattle.block.specs.Worded.{Worded}
 use Rattle.state.specs.Modal.{feedAfter, settled}
 use Rattle.state.specs.Known.{Sound}
-use Rattle.state.proofs.Ranges.{settled-sound}
-use Rattle.block.specs.declared.words.Block.{Block}
+use Rattle.targets.proofs.Ranges.{settled-sound}
+use Rattle.block.specs.declared.Block.{Block}
 use Rattle.settings.specs.Known.{Table}
-use Rattle.state.specs.declared.modal.State.{State}
+use Rattle.state.specs.declared.State.{State}
 use Rattle.asking.specs.Judge.{doing}
-use Rattle.deeds.specs.declared.deed.Deed.{Deed}
-use Rattle.deeds.specs.declared.deed.Deed.the-variants as deed
+use Rattle.deeds.specs.declared.Deed.{Deed}
+use Rattle.deeds.specs.declared.Deed.the-variants as deed
 use Rattle.asking.proofs.Judging.{doing-fitting}
 use Rattle.verdicts.specs.Verdicts.{deedIn, alarmIn}
 use Rattle.machine.specs.Blocks.{doneRecords, doneState}
 use Rattle.settings.specs.Known.{InRange}
 use Rattle.writing.specs.Writes.{oneIf, speedOf, toolOf, mOf, speedAndTool, spindleAndCoolant, moved, done, stops, stopping, writes}
-use Rattle.settings.specs.declared.control.Settings.{Settings}
+use Rattle.settings.specs.declared.Settings.{Settings}
 use Rattle.verdicts.proofs.Passing.{right-in}
 use Rattle.machine.proofs.Running.{sound-after}
 use Rattle.verdicts.proofs.Sent.{known-in}

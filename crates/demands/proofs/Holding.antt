@@ -9,34 +9,34 @@ use lib.IntN.{ℤ}
 use lib.ListN.{length, take, drop, length-append, length-take, length-drop}
 use lib.Seq.{take-at, drop-at}
 use borrow.Author.Tests.{ne-eqb}
-use Rattle.whole.specs.Bytes.{laid}
-use Rattle.whole.proofs.Laying.{laid-nil}
+use Rattle.octets.specs.Bytes.{laid}
+use Rattle.octets.proofs.Laying.{laid-nil}
 use Rattle.alarms.specs.Given.{IsAlarm}
 use Rattle.alarms.proofs.Above.{alarm-above, not-eight, given-more}
 use Rattle.moves.specs.Form.{headerSize, recordSize, recordStart, recordLimit, roomOf, headerBytes, rowBytes, listBytes, AllListed, LawfulList}
 use Rattle.moves.specs.Reading.{rowAt, countIn, listIn, rowIn}
-use Rattle.moves.specs.declared.record.Listed.{Listed}
+use Rattle.moves.specs.declared.Listed.{Listed}
 use Rattle.moves.proofs.OneReading.{length-row, length-list, read-after, list-read, one-reading}
 use Rattle.settings.specs.Known.{Table}
 use Rattle.state.specs.Known.{Sound}
-use Rattle.state.proofs.Ranges.{start-sound}
+use Rattle.targets.proofs.Ranges.{start-sound}
 use Rattle.settings.specs.Known.{InRange}
 use Rattle.settings.specs.Points.{withPoints}
-use Rattle.settings.specs.declared.control.Settings.{Settings}
+use Rattle.settings.specs.declared.Settings.{Settings}
 use Rattle.machine.proofs.Running.{done-few}
 use Rattle.moves.proofs.Room.{room-few, room-fits}
 use Rattle.ahead.specs.Ahead.{mostCalls, onto, FoundAt}
 use Rattle.ahead.specs.declared.ProgramAt.{ProgramAt}
 use Rattle.taking.specs.Steps.{Task, taskOf, Step, listedBy, blockOn, runAfter}
-use Rattle.taking.specs.declared.step.Run.{Run}
+use Rattle.taking.specs.declared.Run.{Run}
 use Rattle.answers.specs.Answers.{countOf, answerBy, startOf, headed}
 use Rattle.interpreter.specs.Answers.{Result, refused, resultOf, mainAt, longestTape, interpretation, answerOf, laidBy}
 use Rattle.runners.specs.Runs.{listedOf, programRun}
 use Rattle.runners.proofs.Going.{length-listed}
 use Rattle.answers.specs.declared.Answer.{Answer}
 use Rattle.answers.specs.declared.Answer.the-variants.{Complete, Alarm}
-use Rattle.runners.specs.declared.run.Ending.{Ending}
-use Rattle.runners.specs.declared.run.Ending.the-variants.{Returned, Ended, Stopped}
+use Rattle.runners.specs.declared.Ending.{Ending}
+use Rattle.runners.specs.declared.Ending.the-variants.{Returned, Ended, Stopped}
 use Rattle.demands.specs.Demands.{Front, HoldsAfter, Named, Told, Owed, IsList, DemandOne, DemandTwo}
 use Rattle.demands.specs.Steps.{Linked}
 use Rattle.demands.proofs.Buffers.{AllFit, listed-fit, chain-fits, FrontBy, Form, form}

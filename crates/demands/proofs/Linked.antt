@@ -21,13 +21,13 @@ use Rattle.ahead.specs.declared.ProgramAt.{ProgramAt}
 use Rattle.ahead.specs.declared.Frame.{Frame}
 use Rattle.ahead.specs.declared.Onward.{Onward}
 use Rattle.ahead.specs.declared.Onward.the-variants.{On, Call, Jump, Return, End, Stop}
-use Rattle.taking.specs.declared.step.StepDone.{StepDone}
-use Rattle.taking.specs.declared.step.Run.{Run}
+use Rattle.taking.specs.declared.StepDone.{StepDone}
+use Rattle.taking.specs.declared.Run.{Run}
 use Rattle.ahead.proofs.Places.{FoundIn, first-on, OnwardOn}
 use Rattle.taking.proofs.Stepping.{onward-on}
 use Rattle.runners.specs.Runs.{Ran, ran, pre, goBack, andThen, goOn, onward, blocks, enough, repeated, called, entry, programRun}
-use Rattle.runners.specs.declared.run.Ending.{Ending}
-use Rattle.runners.specs.declared.run.Ending.the-variants.{Returned, Ended, Stopped}
+use Rattle.runners.specs.declared.Ending.{Ending}
+use Rattle.runners.specs.declared.Ending.the-variants.{Returned, Ended, Stopped}
 use Rattle.demands.specs.Steps.{Done, Linked}
 use Rattle.demands.proofs.Named.{given-above, block-named}
 

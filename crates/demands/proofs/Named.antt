@@ -13,24 +13,24 @@ use Rattle.alarms.specs.Given.{given, IsAlarm}
 use Rattle.whole.specs.Among.{among}
 use Rattle.settings.specs.Wrong.{highestProgram}
 use Rattle.block.specs.Words.{longestLine, lineOf}
-use Rattle.rules.specs.Rules.{brokenBy, lacksBy, refusedLine, judgedBy, judged}
-use Rattle.rules.specs.declared.judge.Judged.{Judged}
-use Rattle.block.specs.declared.words.Block.{Block}
-use Rattle.block.specs.declared.words.Head.{Head}
-use Rattle.block.specs.declared.words.Head.the-variants.{Blank, ProgramLine, BlockLine, Other}
+use Rattle.showing.specs.Showing.{brokenBy, lacksBy, refusedLine, judgedBy, judged}
+use Rattle.showing.specs.declared.Judged.{Judged}
+use Rattle.block.specs.declared.Block.{Block}
+use Rattle.block.specs.declared.Head.{Head}
+use Rattle.block.specs.declared.Head.the-variants.{Blank, ProgramLine, BlockLine, Other}
 use Rattle.reading.specs.Reading.{History, headAlarm, lineAlarm}
 use Rattle.reading.specs.Filling.{Filled, roomAlarm, alarmWith}
-use Rattle.state.specs.declared.modal.State.{State}
+use Rattle.state.specs.declared.State.{State}
 use Rattle.asking.specs.Judge.{feedWrong, roomWrong, alarmOf}
 use Rattle.asking.specs.declared.Asked.{Asked}
 use Rattle.asking.specs.declared.Asks.{Asks}
 use Rattle.verdicts.specs.Verdicts.{asksIn, askedIn, alarmIn}
-use Rattle.settings.specs.declared.control.Settings.{Settings}
+use Rattle.settings.specs.declared.Settings.{Settings}
 use Rattle.taking.specs.Steps.{Task, blockOn, onwardOf, alarmBy, alarmAt}
 use Rattle.ahead.specs.declared.Frame.{Frame}
 use Rattle.ahead.specs.declared.Onward.{Onward}
 use Rattle.ahead.specs.declared.Onward.the-variants.{On, Call, Jump, Return, End, Stop}
-use Rattle.taking.specs.declared.step.Run.{Run}
+use Rattle.taking.specs.declared.Run.{Run}
 use Rattle.ahead.proofs.Places.{OnwardOn}
 use Rattle.taking.proofs.Stepping.{onward-on}
 

@@ -9,34 +9,34 @@ use lib.Dec.{T, eqb}
 use lib.IntN.{ℤ, pos, natAbs}
 use lib.ListN.{getD}
 use borrow.Author.Tests.{eqb-true}
-use Rattle.moves.specs.declared.record.Record.{Record}
+use Rattle.moves.specs.declared.Record.{Record}
 use Rattle.codes.specs.Codes.{gCode, turningNumber}
-use Rattle.codes.specs.declared.meaning.Code.the-variants as code
+use Rattle.codes.specs.declared.Code.the-variants as code
 use Rattle.block.specs.Slots.{has, groupZeroIs, sSlot, tSlot, spindleSlot, flowSlot, coolantSlot, motionSlot, codeIn, gIn}
 use Rattle.acts.specs.Acting.{motionBy}
 use Rattle.state.specs.Modal.{blockMotion, settled}
-use Rattle.state.specs.Target.{offsetOf}
-use Rattle.codes.specs.declared.meaning.Motion.{Motion}
-use Rattle.codes.specs.declared.meaning.Motion.the-variants as motion
-use Rattle.block.specs.declared.words.Block.{Block}
+use Rattle.targets.specs.Target.{offsetOf}
+use Rattle.codes.specs.declared.Motion.{Motion}
+use Rattle.codes.specs.declared.Motion.the-variants as motion
+use Rattle.block.specs.declared.Block.{Block}
 use Rattle.axes.specs.Goes.{inwardOf, acrossOf}
-use Rattle.acts.specs.declared.acting.Kept.{Kept}
-use Rattle.acts.specs.declared.acting.Kept.the-variants as kept
-use Rattle.state.specs.declared.modal.State.{State}
+use Rattle.acts.specs.declared.Kept.{Kept}
+use Rattle.acts.specs.declared.Kept.the-variants as kept
+use Rattle.state.specs.declared.State.{State}
 use Rattle.deeds.specs.Deed.{moveOf, deedOf}
 use Rattle.scaling.specs.Wanted.{zBeforeX, wanted}
-use Rattle.deeds.specs.declared.deed.Deed.{Deed}
-use Rattle.deeds.specs.declared.deed.Deed.the-variants as deed
+use Rattle.deeds.specs.declared.Deed.{Deed}
+use Rattle.deeds.specs.declared.Deed.the-variants as deed
 use Rattle.asking.specs.Judge.{doing}
 use Rattle.deeds.specs.Known.{Right}
 use Rattle.scaling.proofs.Wanted.{is-wanted}
 use Rattle.cycles.specs.declared.Cycle.the-variants as cycle
 use Rattle.turning.specs.Turned.{Turned}
 use Rattle.turning.specs.Turning.{turning}
-use Rattle.turning.specs.declared.cycle.Turning.{Turning}
+use Rattle.turning.specs.declared.Turning.{Turning}
 use Rattle.turning.proofs.Asked.{long-enough}
 use Rattle.turning.proofs.Turned.{turned}
-use Rattle.settings.specs.declared.control.Settings.{Settings}
+use Rattle.settings.specs.declared.Settings.{Settings}
 use Rattle.strokes.proofs.Beside.{NoFeeds}
 use Rattle.writing.specs.Writes.{oneIf, speedOf, toolOf, mOf, speedAndTool, spindleAndCoolant, done, stops, stopping, writes}
 use Rattle.verdicts.specs.Verdicts.{sendingOf, deedIn, alarmIn}

@@ -12,32 +12,32 @@ use Rattle.moves.specs.Form.{FittingOrigin}
 use Rattle.tape.specs.Lines.{textAt, lineAt, linesUp, lines}
 use Rattle.numbers.proofs.Bounds.{cond-ind}
 use Rattle.block.specs.Words.{headOf}
-use Rattle.block.specs.declared.words.Head.{Head}
-use Rattle.block.specs.declared.words.Head.the-variants.{Blank, ProgramLine, BlockLine, Other}
+use Rattle.block.specs.declared.Head.{Head}
+use Rattle.block.specs.declared.Head.the-variants.{Blank, ProgramLine, BlockLine, Other}
 use Rattle.block.proofs.Heads.{HeadIn, head-in}
 use Rattle.settings.specs.Wrong.{highestSubroutine}
-use Rattle.settings.specs.declared.control.Settings.{Settings}
+use Rattle.settings.specs.declared.Settings.{Settings}
 use Rattle.finding.specs.Finding.{Sought, Program, Block, AnyBlock, hereOf, foundBy, seekLine, findProgram, firstBlock, blockOfProgram, blockNumber}
 use Rattle.finding.specs.declared.Here.{Here}
 use Rattle.finding.specs.declared.Here.the-variants as line
 use Rattle.finding.proofs.Searching.{is-block}
 use Rattle.places.specs.declared.Found.{Found}
 use Rattle.places.specs.declared.Found.the-variants.{At, Nowhere}
-use Rattle.state.specs.Request.{requestOf}
-use Rattle.state.specs.declared.request.Request.{Request}
-use Rattle.state.specs.declared.request.Request.the-variants as next
+use Rattle.requests.specs.Request.{requestOf}
+use Rattle.requests.specs.declared.Request.{Request}
+use Rattle.requests.specs.declared.Request.the-variants as next
 use Rattle.alarms.specs.Numbers.{tooManyBegun}
 use Rattle.ahead.specs.Ahead.{mostCalls, calledAt, jumpedTo, lookedBy, lookedUp, FoundAt}
 use Rattle.ahead.specs.declared.ProgramAt.{ProgramAt}
 use Rattle.ahead.specs.declared.Frame.{Frame}
 use Rattle.ahead.specs.declared.Onward.{Onward}
 use Rattle.ahead.specs.declared.Onward.the-variants.{On, Call, Jump, Return, End, Stop}
-use Rattle.taking.specs.declared.step.StepDone.{StepDone}
-use Rattle.taking.specs.declared.step.Run.{Run}
+use Rattle.taking.specs.declared.StepDone.{StepDone}
+use Rattle.taking.specs.declared.Run.{Run}
 use Rattle.taking.specs.Steps.{Task, Step, blockOn, onwardBy, onwardOf, alarmAt, runAfter, doneAt, originAt, takenBy, takenFrom}
 use Rattle.runners.specs.Runs.{Ran, pre, goBack, andThen, goOn, onward, blocks, enough, repeated, called, entry, programRun}
-use Rattle.runners.specs.declared.run.Ending.{Ending}
-use Rattle.runners.specs.declared.run.Ending.the-variants.{Returned, Ended, Stopped}
+use Rattle.runners.specs.declared.Ending.{Ending}
+use Rattle.runners.specs.declared.Ending.the-variants.{Returned, Ended, Stopped}
 use Rattle.demands.specs.Demands.{Each}
 use Rattle.demands.specs.Origins.{isProgramLine, Reaches, arrived, passing, CameFrom}
 use Rattle.demands.proofs.Linked.{done-free, done-alarm}

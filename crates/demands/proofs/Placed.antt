@@ -17,18 +17,18 @@ use Rattle.places.proofs.Rows.{inserted-length}
 use Rattle.places.proofs.Walks.{table-row}
 use Rattle.tape.specs.Lines.{seekFrom, opensTape, Text, lines}
 use Rattle.block.specs.Words.{headOf}
-use Rattle.block.specs.declared.words.Head.{Head}
-use Rattle.block.specs.declared.words.Head.the-variants.{Blank, ProgramLine, BlockLine, Other}
-use Rattle.rules.specs.Rules.{judged}
-use Rattle.rules.specs.declared.judge.Judged.{Judged}
+use Rattle.block.specs.declared.Head.{Head}
+use Rattle.block.specs.declared.Head.the-variants.{Blank, ProgramLine, BlockLine, Other}
+use Rattle.showing.specs.Showing.{judged}
+use Rattle.showing.specs.declared.Judged.{Judged}
 use Rattle.finding.proofs.Walking.{kindOf, linesOf}
 use Rattle.reading.specs.Reading.{History, nothingRead, noted, endsWith}
 use Rattle.reading.specs.Filling.{Filled, nothingFilled, filed, roomAlarm, alarmWith, Readings, readLinesWith, readWith, acceptedOf}
-use Rattle.reading.specs.declared.read.Read.the-variants as read
+use Rattle.reading.specs.declared.Read.the-variants as read
 use Rattle.reading.proofs.Tabled.{none-room, row-accepted, all-accepted}
 use Rattle.alarms.specs.Numbers as alarms
 use Rattle.settings.specs.Wrong.{settingsWrong}
-use Rattle.settings.specs.declared.control.Settings.{Settings}
+use Rattle.settings.specs.declared.Settings.{Settings}
 use Rattle.interpreter.specs.Answers.{longestTape, rowOf, placesOf}
 use Rattle.interpreter.proofs.Staying.{all-stay, stays-unless}
 use Rattle.demands.specs.Placed.{acceptedIn, entriesBy, entriesOf, ListsStay}

@@ -13,7 +13,7 @@ use Rattle.alarms.specs.Given.{IsAlarm}
 use Rattle.alarms.proofs.Above.{not-missing}
 use Rattle.settings.specs.Points.{withPoints}
 use Rattle.settings.specs.Wrong.{settingsWrong}
-use Rattle.settings.specs.declared.control.Settings.{Settings}
+use Rattle.settings.specs.declared.Settings.{Settings}
 use Rattle.moves.specs.Form.{headerSize}
 use Rattle.letters.specs.Letters.{letterN}
 use Rattle.tape.specs.Lines.{seekFrom, opensTape, Text, lines}
@@ -23,20 +23,20 @@ use Rattle.addresses.specs.declared.Word.{Word}
 use Rattle.addresses.specs.declared.NextWord.{NextWord}
 use Rattle.addresses.specs.declared.NextWord.the-variants as next
 use Rattle.addresses.proofs.Wording.{words-more}
-use Rattle.block.specs.declared.words.Block.{Block}
-use Rattle.block.specs.declared.words.Head.{Head}
-use Rattle.block.specs.declared.words.Head.the-variants.{ProgramLine, BlockLine, Other}
-use Rattle.block.specs.declared.words.ReadLine.{ReadLine}
-use Rattle.block.specs.declared.words.Rest.{Rest}
-use Rattle.block.specs.declared.words.Slot.{Slot}
-use Rattle.block.specs.declared.words.Slot.the-variants as slot
+use Rattle.block.specs.declared.Block.{Block}
+use Rattle.block.specs.declared.Head.{Head}
+use Rattle.block.specs.declared.Head.the-variants.{ProgramLine, BlockLine, Other}
+use Rattle.block.specs.declared.ReadLine.{ReadLine}
+use Rattle.block.specs.declared.Rest.{Rest}
+use Rattle.block.specs.declared.Slot.{Slot}
+use Rattle.block.specs.declared.Slot.the-variants as slot
 use Rattle.block.specs.Words.{longestLine, numberIn, slotOf, noWords, putIn, putWord, isProgramAddress, faultyRest, gather, headBy, lineBy, lineOf}
-use Rattle.rules.specs.Rules.{brokenBy, lacksBy, refusedLine, judgedBy, judged}
-use Rattle.rules.specs.declared.judge.Judged.{Judged}
+use Rattle.showing.specs.Showing.{brokenBy, lacksBy, refusedLine, judgedBy, judged}
+use Rattle.showing.specs.declared.Judged.{Judged}
 use Rattle.reading.specs.Reading.{History, nothingRead, headAlarm, lineAlarm, noted, endsWith}
 use Rattle.reading.specs.Filling.{Filled, nothingFilled, filed, roomAlarm, alarmWith, Readings, afterLineWith, readLinesWith, readWith, placesBehind}
-use Rattle.reading.specs.declared.read.Read.{Read}
-use Rattle.reading.specs.declared.read.Read.the-variants as read
+use Rattle.reading.specs.declared.Read.{Read}
+use Rattle.reading.specs.declared.Read.the-variants as read
 use Rattle.answers.specs.declared.Answer.the-variants.{Alarm}
 use Rattle.interpreter.specs.Answers.{Result, refused, readThen, longestTape, interpretationBy, interpretation, rowOf, laidBy}
 use Rattle.demands.specs.Demands.{Named}

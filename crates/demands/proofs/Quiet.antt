@@ -6,11 +6,11 @@ use mathlib.Core.List.{List, [], _∷_, _++_}
 use lib.Dec.{ltb, eqb}
 use lib.IntN.{ℤ, _-ℤ_, natAbs}
 use borrow.Author.Tests.{ne-eqb}
-use Rattle.moves.specs.declared.record.Record.{Record}
+use Rattle.moves.specs.declared.Record.{Record}
 use Rattle.axes.specs.Axis.{side, net}
 use Rattle.axes.specs.Goes.{inwardOf, acrossOf}
 use Rattle.turning.specs.Turned.{feedKind, passLines, eachDepth, depths, Depths, FeedsWithin, Turned}
-use Rattle.turning.specs.declared.cycle.Turning.{Turning}
+use Rattle.turning.specs.declared.Turning.{Turning}
 use Rattle.strokes.proofs.Beside.{NoFeeds}
 
 -- a record that is no feed and stands where the cycle starts

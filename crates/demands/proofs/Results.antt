@@ -13,15 +13,15 @@ use Rattle.alarms.specs.Numbers.{noProgram}
 use Rattle.alarms.specs.Given.{IsAlarm}
 use Rattle.moves.specs.Form.{headerSize}
 use Rattle.tape.specs.Lines.{seekFrom, opensTape, Text, lines}
-use Rattle.rules.specs.Rules.{judged}
+use Rattle.showing.specs.Showing.{judged}
 use Rattle.finding.specs.Finding.{findProgram}
 use Rattle.reading.specs.Reading.{History, nothingRead, noted, endsWith}
 use Rattle.reading.specs.Filling.{Filled, nothingFilled, filed, alarmWith, Readings, readLinesWith, readWith}
 use Rattle.places.specs.declared.Found.{Found}
 use Rattle.places.specs.declared.Found.the-variants.{At, Nowhere}
-use Rattle.reading.specs.declared.read.Read.{Read}
-use Rattle.reading.specs.declared.read.Read.the-variants as read
-use Rattle.settings.specs.declared.control.Settings.{Settings}
+use Rattle.reading.specs.declared.Read.{Read}
+use Rattle.reading.specs.declared.Read.the-variants as read
+use Rattle.settings.specs.declared.Settings.{Settings}
 use Rattle.ahead.specs.Ahead.{mostCalls, FoundAt}
 use Rattle.taking.specs.Steps.{Task, taskOf}
 use Rattle.ahead.proofs.Places.{AllIn, lines-in, FoundIn, program-on}

@@ -4,26 +4,26 @@ use mathlib.Core.Path.{_≡_, refl, ap, _∙_}
 use mathlib.Core.Bool.{Bool, true, false, cond}
 use mathlib.Core.List.{List, _++_}
 use lib.IntN.{ℤ}
-use Rattle.moves.specs.declared.record.Record.{Record}
+use Rattle.moves.specs.declared.Record.{Record}
 use Rattle.block.specs.Slots.{has, sSlot, tSlot, spindleSlot, flowSlot, coolantSlot}
 use Rattle.state.specs.Modal.{blockMotion, settled}
-use Rattle.block.specs.declared.words.Block.{Block}
+use Rattle.block.specs.declared.Block.{Block}
 use Rattle.cycles.specs.Known.{home}
 use Rattle.moves.specs.Last.{lastOf}
 use Rattle.moves.proofs.Last.{after-move, after-here, last-append}
 use Rattle.arcs.specs.Arcs.{endRecord}
 use Rattle.arcs.proofs.Ranges.{arc-last}
 use Rattle.cycles.proofs.Homes.{goes-home}
-use Rattle.state.specs.declared.modal.State.{State}
+use Rattle.state.specs.declared.State.{State}
 use Rattle.asking.specs.Judge.{doing}
-use Rattle.deeds.specs.declared.deed.Deed.{Deed}
-use Rattle.deeds.specs.declared.deed.Deed.the-variants as deed
+use Rattle.deeds.specs.declared.Deed.{Deed}
+use Rattle.deeds.specs.declared.Deed.the-variants as deed
 use Rattle.scaling.specs.declared.Sending.{Sending}
 use Rattle.deeds.proofs.Made.{Starts, starts}
 use Rattle.verdicts.specs.Verdicts.{sendingOf, deedIn}
 use Rattle.machine.specs.Blocks.{doneRecords, doneState}
 use Rattle.writing.specs.Writes.{oneIf, speedOf, toolOf, mOf, speedAndTool, spindleAndCoolant, moved, done, stops, stopping, writes}
-use Rattle.settings.specs.declared.control.Settings.{Settings}
+use Rattle.settings.specs.declared.Settings.{Settings}
 
 -- ---- of any coordinate: f is X or Z of a record
 module _ (f : Record → ℤ) where

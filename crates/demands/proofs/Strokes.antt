@@ -8,19 +8,19 @@ use native.Mathlib.Omega.{arith}
 use lib.Dec.{T}
 use lib.IntN.{ℤ}
 use lib.ListN.{length}
-use Rattle.moves.specs.declared.record.Record.{Record}
+use Rattle.moves.specs.declared.Record.{Record}
 use Rattle.codes.specs.Codes.{gCode, turningNumber, groovingNumber, chipBreakingNumber, redrawingNumber}
-use Rattle.codes.specs.declared.meaning.Motion.{Motion}
-use Rattle.codes.specs.declared.meaning.Motion.the-variants as motion
-use Rattle.block.specs.declared.words.Block.{Block}
+use Rattle.codes.specs.declared.Motion.{Motion}
+use Rattle.codes.specs.declared.Motion.the-variants as motion
+use Rattle.block.specs.declared.Block.{Block}
 use Rattle.block.specs.Slots.{has, groupZeroIs, sSlot, tSlot, spindleSlot, flowSlot, coolantSlot}
 use Rattle.acts.specs.Acting.{motionBy}
-use Rattle.acts.specs.declared.acting.Kept.{Kept}
-use Rattle.acts.specs.declared.acting.Kept.the-variants as kept
+use Rattle.acts.specs.declared.Kept.{Kept}
+use Rattle.acts.specs.declared.Kept.the-variants as kept
 use Rattle.axes.specs.Axis.{distance, net}
-use Rattle.axes.specs.declared.axis.Axis.{Axis}
-use Rattle.turning.specs.declared.cycle.Turning.{Turning}
-use Rattle.grooving.specs.declared.groove.Groove.{Groove}
+use Rattle.axes.specs.declared.Axis.{Axis}
+use Rattle.turning.specs.declared.Turning.{Turning}
+use Rattle.grooving.specs.declared.Groove.{Groove}
 use Rattle.cycles.specs.declared.Cycle.{Cycle}
 use Rattle.cycles.specs.declared.Cycle.the-variants as cycle
 use Rattle.cycles.specs.Cycle as cycles
@@ -28,16 +28,16 @@ use Rattle.strokes.specs.Strokes.{Inward, DepthsAddUp, Cutting, g84, g86, g87-8
 use Rattle.strokes.proofs.FourCycles.{depths-add-up}
 use Rattle.strokes.proofs.Beside.{NoFeeds, adds-up-between}
 use Rattle.state.specs.Modal.{settled}
-use Rattle.state.specs.Target.{offsetOf, targetX, targetZ}
-use Rattle.state.specs.declared.modal.State.{State}
-use Rattle.state.specs.declared.target.Pair.{Pair}
-use Rattle.settings.specs.declared.control.Settings.{Settings}
+use Rattle.targets.specs.Target.{offsetOf, targetX, targetZ}
+use Rattle.state.specs.declared.State.{State}
+use Rattle.targets.specs.declared.Pair.{Pair}
+use Rattle.settings.specs.declared.Settings.{Settings}
 use Rattle.scaling.specs.Scaled.{isFacing, grooveOf, boreOf}
 use Rattle.deeds.specs.Deed.{moveOf, deedOf}
 use Rattle.scaling.specs.Wanted.{zBeforeX, xAxisWanted, zAxisWanted, wanted}
 use Rattle.deeds.specs.Known.{Right}
-use Rattle.deeds.specs.declared.deed.Deed.{Deed}
-use Rattle.deeds.specs.declared.deed.Deed.the-variants as deed
+use Rattle.deeds.specs.declared.Deed.{Deed}
+use Rattle.deeds.specs.declared.Deed.the-variants as deed
 use Rattle.asking.specs.Judge.{doing}
 use Rattle.writing.specs.Writes.{oneIf, speedOf, toolOf, mOf, speedAndTool, spindleAndCoolant, done, stops, stopping, writes}
 use Rattle.verdicts.specs.Verdicts.{sendingOf, deedIn, alarmIn}

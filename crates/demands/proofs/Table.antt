@@ -10,13 +10,14 @@ use Rattle.numbers.specs.Numbers.{digitsOf, unsignedPath, pathOf, digitsIn, num
 use Rattle.addresses.specs.Words.{capital, endsNumber, formOf, numberWord, indexedWord, wordAt, nextWord, lacksPoint, wordsUp, wordsFrom}
 use Rattle.codes.specs.Codes.{gCode, mCode}
 use Rattle.block.specs.Slots.{has, groupZeroIs, codeIn, anyOf, gIn, mIn}
-use Rattle.rules.specs.Rules.{callsOrJumps, unknownNumber, lateN, afterProgram, axisTwice, lWordWrong, moreThanL, dWordWrong, broken, brokenBy, lacksBy, judged, callWrong, pathWrong, centreWrong, isForeign, dWordMissing, bitsWrong, motionWrong}
+use Rattle.rules.specs.Rules.{callsOrJumps, unknownNumber, lateN, afterProgram, axisTwice, lWordWrong, moreThanL, dWordWrong, broken, callWrong, pathWrong, centreWrong, isForeign, dWordMissing, bitsWrong, motionWrong}
+use Rattle.showing.specs.Showing.{brokenBy, lacksBy, judged}
 use Rattle.block.specs.Words.{slotOf, noWords, isEnd, putWord, isProgramAddress, faultyRest, gather, headBy, headOf, lineOf}
 use Rattle.acts.specs.Acting.{returnsBy, motionBy, keep, shiftBy, endsBy, cuttingBy, revolutionBy}
 use Rattle.state.specs.Modal.{blockMotion, correctionAfter, feedAfter, dueAfter, settled}
-use Rattle.state.specs.Request.{timesOf, steered, flowBy, requestOf}
-use Rattle.state.specs.Target.{pairOf, correctionPair, offsetOf, targetX, targetZ}
-use Rattle.acts.specs.Stands.{standsFreely, standsWith, standsBy, isTaken}
+use Rattle.requests.specs.Request.{timesOf, steered, flowBy, requestOf}
+use Rattle.targets.specs.Target.{pairOf, correctionPair, offsetOf, targetX, targetZ}
+use Rattle.stands.specs.Stands.{standsFreely, standsWith, standsBy, isTaken}
 use Rattle.finding.specs.Finding.{hereOf, foundBy, seekLine, blockOfProgram}
 use Rattle.places.specs.Places.{keyIn, inserted}
 use Rattle.reading.specs.Reading.{headAlarm, lineAlarm, noted, endsWith}

@@ -5,27 +5,27 @@ use mathlib.Core.Bool.{Bool, true, false}
 use mathlib.Core.List.{List, [], _∷_, _++_, append-assoc}
 use Prim.Native.Nat.{ℕ}
 use lib.IntN.{ℤ}
-use Rattle.moves.specs.declared.record.Record.{Record}
+use Rattle.moves.specs.declared.Record.{Record}
 use Rattle.codes.specs.Codes.{gCode, threadingNumber}
-use Rattle.codes.specs.declared.meaning.Motion.the-variants as motion
-use Rattle.block.specs.declared.words.Block.{Block}
+use Rattle.codes.specs.declared.Motion.the-variants as motion
+use Rattle.block.specs.declared.Block.{Block}
 use Rattle.block.specs.Slots.{has, sSlot, tSlot, spindleSlot, flowSlot, coolantSlot}
 use Rattle.acts.specs.Acting.{motionBy}
-use Rattle.acts.specs.declared.acting.Kept.{Kept}
-use Rattle.acts.specs.declared.acting.Kept.the-variants as kept
+use Rattle.acts.specs.declared.Kept.{Kept}
+use Rattle.acts.specs.declared.Kept.the-variants as kept
 use Rattle.state.specs.Modal.{settled}
-use Rattle.state.specs.Target.{offsetOf}
-use Rattle.state.specs.declared.modal.State.{State}
-use Rattle.settings.specs.declared.control.Settings.{Settings}
-use Rattle.threading.specs.declared.thread.Thread.{Thread}
+use Rattle.targets.specs.Target.{offsetOf}
+use Rattle.state.specs.declared.State.{State}
+use Rattle.settings.specs.declared.Settings.{Settings}
+use Rattle.threading.specs.declared.Thread.{Thread}
 use Rattle.threading.specs.Threading.{threading}
 use Rattle.threading.specs.Threaded.{Threaded, isBeside}
 use Rattle.threading.proofs.Threaded.{threaded, AllBeside, threaded-between}
 use Rattle.cycles.specs.declared.Cycle.the-variants as cycle
 use Rattle.deeds.specs.Deed.{moveOf, deedOf}
 use Rattle.deeds.specs.Known.{Right}
-use Rattle.deeds.specs.declared.deed.Deed.{Deed}
-use Rattle.deeds.specs.declared.deed.Deed.the-variants as deed
+use Rattle.deeds.specs.declared.Deed.{Deed}
+use Rattle.deeds.specs.declared.Deed.the-variants as deed
 use Rattle.scaling.proofs.Wanted.{is-thread-wanted}
 use Rattle.asking.specs.Judge.{doing}
 use Rattle.writing.specs.Writes.{oneIf, speedOf, toolOf, mOf, speedAndTool, spindleAndCoolant, done, stops, stopping, writes}

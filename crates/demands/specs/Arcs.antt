@@ -10,18 +10,18 @@ use lib.ListN.{length}
 use Rattle.whole.specs.Among.{among}
 use Rattle.moves.specs.Kinds.{toolKind, miscellaneousKind, speedKind}
 use Rattle.moves.specs.Reading.{recordsIn}
-use Rattle.moves.specs.declared.record.Record.{Record}
-use Rattle.codes.specs.declared.meaning.Motion.the-variants as motion
-use Rattle.acts.specs.declared.acting.Kept.the-variants as kept
+use Rattle.moves.specs.declared.Record.{Record}
+use Rattle.codes.specs.declared.Motion.the-variants as motion
+use Rattle.acts.specs.declared.Kept.the-variants as kept
 use Rattle.block.specs.Slots.{pathSlots, anyIn}
-use Rattle.block.specs.declared.words.Block.{Block}
-use Rattle.settings.specs.declared.control.Settings.{Settings}
+use Rattle.block.specs.declared.Block.{Block}
+use Rattle.settings.specs.declared.Settings.{Settings}
 use Rattle.arcs.specs.Arcs.{arcRecords}
 use Rattle.straying.specs.Rows.{ArcsKeep}
-use Rattle.arcs.specs.declared.arc.Arc.{Arc}
+use Rattle.arcs.specs.declared.Arc.{Arc}
 use Rattle.state.specs.Modal.{blockMotion, settled}
-use Rattle.state.specs.Target.{offsetOf}
-use Rattle.state.specs.declared.modal.State.{State}
+use Rattle.targets.specs.Target.{offsetOf}
+use Rattle.state.specs.declared.State.{State}
 use Rattle.scaling.specs.Wanted.{arcWanted}
 use Rattle.taking.specs.Steps.{Task, Step, blockOn}
 use Rattle.runners.specs.Runs.{recordsOf}

@@ -11,11 +11,11 @@ use lib.IntN.{ℤ}
 use lib.ListN.{length, take, drop}
 use Rattle.moves.specs.Form.{headerSize, recordSize, recordLimit, recordStart, headerBytes, rowBytes, listBytes, LawfulList}
 use Rattle.moves.specs.Reading.{rowAt, recordsIn, countIn, listIn}
-use Rattle.moves.specs.declared.record.Listed.{Listed}
+use Rattle.moves.specs.declared.Listed.{Listed}
 use Rattle.alarms.specs.Given.{IsAlarm}
 use Rattle.reading.specs.Filling.{readWith}
-use Rattle.reading.specs.declared.read.Read.{Read}
-use Rattle.reading.specs.declared.read.Read.the-variants as read
+use Rattle.reading.specs.declared.Read.{Read}
+use Rattle.reading.specs.declared.Read.the-variants as read
 use Rattle.places.specs.Places.{Row}
 use Rattle.places.specs.Lines.{noProgram}
 use Rattle.whole.specs.Among.{among}
@@ -26,7 +26,7 @@ use Rattle.moves.specs.Last.{lastOf}
 use Rattle.demands.specs.Placed.{entriesOf, acceptedIn}
 use Rattle.demands.specs.Opens.{opensTurning, wantedIn, opensThreading, threadIn}
 use Rattle.settings.specs.Points.{withPoints}
-use Rattle.settings.specs.declared.control.Settings.{Settings}
+use Rattle.settings.specs.declared.Settings.{Settings}
 use Rattle.taking.specs.Steps.{Task, taskOf, Step, blockOn}
 use Rattle.answers.specs.Answers.{numberOf, placeOf, countOf}
 use Rattle.interpreter.specs.Answers.{Result, longestTape, interpretation, placesOf, bufferOf, laidBy}

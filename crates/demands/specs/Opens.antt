@@ -4,14 +4,14 @@ use mathlib.Core.List.{List}
 use lib.IntN.{ℤ}
 use Rattle.codes.specs.Codes.{turningNumber, threadingNumber}
 use Rattle.block.specs.Slots.{groupZeroIs}
-use Rattle.block.specs.declared.words.Block.{Block}
+use Rattle.block.specs.declared.Block.{Block}
 use Rattle.state.specs.Modal.{settled}
-use Rattle.state.specs.Target.{offsetOf}
-use Rattle.state.specs.declared.modal.State.{State}
+use Rattle.targets.specs.Target.{offsetOf}
+use Rattle.state.specs.declared.State.{State}
 use Rattle.scaling.specs.Wanted.{wanted, threadWanted}
-use Rattle.settings.specs.declared.control.Settings.{Settings}
-use Rattle.turning.specs.declared.cycle.Turning.{Turning}
-use Rattle.threading.specs.declared.thread.Thread.{Thread}
+use Rattle.settings.specs.declared.Settings.{Settings}
+use Rattle.turning.specs.declared.Turning.{Turning}
+use Rattle.threading.specs.declared.Thread.{Thread}
 
 -- the G word of group 0 that applies is G84
 abbrev pub opensTurning : Block → Bool

@@ -10,11 +10,11 @@ use Rattle.moves.specs.Form.{stamped}
 use Rattle.moves.specs.Reading.{rowAt}
 use Rattle.tape.specs.Lines.{textAt, lineAt, lines}
 use Rattle.block.specs.Words.{headOf}
-use Rattle.block.specs.declared.words.Head.{Head}
-use Rattle.block.specs.declared.words.Head.the-variants.{Blank, ProgramLine, BlockLine, Other}
+use Rattle.block.specs.declared.Head.{Head}
+use Rattle.block.specs.declared.Head.the-variants.{Blank, ProgramLine, BlockLine, Other}
 use Rattle.finding.specs.Finding.{findProgram}
 use Rattle.places.specs.declared.Found.the-variants.{At}
-use Rattle.settings.specs.declared.control.Settings.{Settings}
+use Rattle.settings.specs.declared.Settings.{Settings}
 use Rattle.taking.specs.Steps.{Task, Step}
 use Rattle.interpreter.specs.Answers.{interpretation, bufferOf}
 use Rattle.demands.specs.Demands.{EachFrom, task}

@@ -11,11 +11,11 @@ use Rattle.moves.specs.Form.{headerSize}
 use Rattle.places.specs.Places.{lineKey, blockKey, entryOf}
 use Rattle.tape.specs.Lines.{Text}
 use Rattle.block.specs.Words.{headOf}
-use Rattle.block.specs.declared.words.Head.{Head}
-use Rattle.block.specs.declared.words.Head.the-variants.{Blank, ProgramLine, BlockLine, Other}
+use Rattle.block.specs.declared.Head.{Head}
+use Rattle.block.specs.declared.Head.the-variants.{Blank, ProgramLine, BlockLine, Other}
 use Rattle.reading.specs.Filling.{acceptedOf, mostPlaces}
 use Rattle.settings.specs.Wrong.{settingsWrong}
-use Rattle.settings.specs.declared.control.Settings.{Settings}
+use Rattle.settings.specs.declared.Settings.{Settings}
 use Rattle.answers.specs.declared.Answer.the-variants.{Alarm}
 use Rattle.interpreter.specs.Answers.{longestTape, firstInterpretation, interpretation, answerOf}
 

@@ -8,7 +8,7 @@ use lib.IntN.{ℤ}
 use lib.ListN.{length}
 use Rattle.alarms.specs.Numbers.{missingPoint}
 use Rattle.settings.specs.Points.{withPoints}
-use Rattle.settings.specs.declared.control.Settings.{Settings}
+use Rattle.settings.specs.declared.Settings.{Settings}
 use Rattle.tape.specs.Lines.{seekFrom, opensTape, Text, lines}
 use Rattle.addresses.specs.Words.{Words, word, ended, faulty, lacksPoint, wordsFrom}
 use Rattle.answers.specs.declared.Answer.the-variants.{Alarm}

@@ -5,7 +5,7 @@ use Rattle.machine.specs.Blocks.{doneRecords}
 use Rattle.ahead.specs.Ahead.{onto}
 use Rattle.taking.specs.Steps.{Task, Step, blockOn, alarmAt, runAfter}
 use Rattle.ahead.specs.declared.Frame.{Frame}
-use Rattle.taking.specs.declared.step.Run.{Run}
+use Rattle.taking.specs.declared.Run.{Run}
 
 -- a step that was taken from the run r: its block had no alarm, in some program and with some calls left (the frame), and its records are those of the block
 pub record Done (t : Task) (r : Run) (st : Step) : Type 0 where

@@ -9,15 +9,15 @@ use lib.ListN.{length}
 use Rattle.moves.specs.Reading.{recordsIn}
 use Rattle.codes.specs.Codes.{turningNumber, groovingNumber, chipBreakingNumber, redrawingNumber}
 use Rattle.block.specs.Slots.{groupZeroIs}
-use Rattle.block.specs.declared.words.Block.{Block}
-use Rattle.settings.specs.declared.control.Settings.{Settings}
+use Rattle.block.specs.declared.Block.{Block}
+use Rattle.settings.specs.declared.Settings.{Settings}
 use Rattle.axes.specs.Axis.{distance, side, net}
-use Rattle.axes.specs.declared.axis.Axis.{Axis}
+use Rattle.axes.specs.declared.Axis.{Axis}
 use Rattle.strokes.specs.Strokes.{Inward, DepthsAddUp}
 use Rattle.state.specs.Modal.{settled}
-use Rattle.state.specs.Target.{offsetOf}
-use Rattle.state.specs.declared.modal.State.{State}
-use Rattle.state.specs.declared.target.Pair.{Pair}
+use Rattle.targets.specs.Target.{offsetOf}
+use Rattle.state.specs.declared.State.{State}
+use Rattle.targets.specs.declared.Pair.{Pair}
 use Rattle.scaling.specs.Wanted.{zBeforeX, xAxisWanted, zAxisWanted}
 use Rattle.taking.specs.Steps.{Task, Step, blockOn}
 use Rattle.interpreter.specs.Answers.{interpretation, bufferOf}

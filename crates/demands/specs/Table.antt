@@ -10,15 +10,15 @@ use Rattle.whole.specs.Signed.{minus}
 use Rattle.division.specs.Division.{count, pieces}
 use Rattle.moves.specs.Form.{listed}
 use Rattle.moves.specs.Kinds.{rapid, feed, miscellaneous, speed}
-use Rattle.moves.specs.declared.record.Record.{Record}
-use Rattle.moves.specs.declared.record.Origin.{Origin}
-use Rattle.moves.specs.declared.record.Listed.{Listed}
+use Rattle.moves.specs.declared.Record.{Record}
+use Rattle.moves.specs.declared.Origin.{Origin}
+use Rattle.moves.specs.declared.Listed.{Listed}
 use Rattle.letters.specs.Text.{bytes}
 use Rattle.addresses.specs.Words.{nextWord}
 use Rattle.addresses.specs.declared.NextWord.{NextWord}
 use Rattle.addresses.specs.declared.NextWord.the-variants as next
 use Rattle.reading.specs.Filling.{mostPlaces}
-use Rattle.settings.specs.Listmoves.{listmoves, noOffsets}
+use Rattle.panel.specs.Listmoves.{listmoves, noOffsets}
 use Rattle.answers.specs.Answers.{numberOf, placeOf, countOf}
 use Rattle.interpreter.specs.Answers.{Result, interpretation}
 use Rattle.runners.specs.Runs.{recordsOf, listedOf}

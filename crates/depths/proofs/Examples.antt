@@ -4,7 +4,7 @@ use mathlib.Core.Path.{_≡_, refl}
 use mathlib.Core.List.{[], _∷_}
 use Rattle.division.specs.Division.{count, pieces, divided}
 use Rattle.roots.specs.Roots.{nearer, rootIn, root}
-use Rattle.depths.specs.declared.rule.Rule.the-variants.{EvenDepth, EvenNumber, FallingDepth, FallingNumber}
+use Rattle.depths.specs.declared.Rule.the-variants.{EvenDepth, EvenNumber, FallingDepth, FallingNumber}
 use Rattle.depths.specs.Depths.{running, cuts, cutCount, depths}
 
 -- `D3=600 D6=1277` of 001's first example

@@ -7,8 +7,8 @@ use native.Mathlib.Omega.{arith}
 use lib.ListN.{length, getD}
 use Rattle.division.specs.Division.{count, pieces, divided, sum, greatest, Evenly}
 use Rattle.division.proofs.Divisions.{count-is, count-above, evenly, pieces-length, pieces-sum}
-use Rattle.depths.specs.declared.rule.Rule.{Rule}
-use Rattle.depths.specs.declared.rule.Rule.the-variants.{EvenDepth, EvenNumber, FallingDepth, FallingNumber}
+use Rattle.depths.specs.declared.Rule.{Rule}
+use Rattle.depths.specs.declared.Rule.the-variants.{EvenDepth, EvenNumber, FallingDepth, FallingNumber}
 use Rattle.depths.specs.Depths.{greatestD, byDepth, byNumber, cuts, cutCount, depths, Proper}
 use Rattle.depths.specs.Promised.{taken, Rises, Alike, RootByDepth, RootByNumber, Until, Falling, ByRule, Promised}
 use Rattle.depths.proofs.Rows.{running-length, running-taken, running-rises, cuts-length, cuts-rise}

@@ -3,5 +3,4 @@ pub mod Examples
 pub mod Rows
 pub mod Falls
 pub mod Kept
-pub mod Opened
 pub mod RuledOut

@@ -4,7 +4,7 @@ use mathlib.Core.List.{List, [], _∷_}
 use Prim.Native.Nat.{ℕ, suc}
 use native.Mathlib.Omega.{arith}
 use Rattle.division.proofs.RuledOut as even
-use Rattle.depths.specs.declared.rule.Rule.the-variants.{EvenDepth, EvenNumber, FallingDepth, FallingNumber}
+use Rattle.depths.specs.declared.Rule.the-variants.{EvenDepth, EvenNumber, FallingDepth, FallingNumber}
 use Rattle.depths.specs.Promised.{taken, Rises, Until, more, Promised}
 
 -- a depth that is not the last is that of the rule

@@ -5,8 +5,8 @@ use mathlib.Core.List.{List, [], _∷_}
 use Prim.Native.Nat.{ℕ, zero, suc, _+_, _*_, _/_, _≤_, _<_, min}
 use Rattle.division.specs.Division.{count, pieces, divided}
 use Rattle.roots.specs.Roots.{root}
-use Rattle.depths.specs.declared.rule.Rule.{Rule}
-use Rattle.depths.specs.declared.rule.Rule.the-variants.{EvenDepth, EvenNumber, FallingDepth, FallingNumber}
+use Rattle.depths.specs.declared.Rule.{Rule}
+use Rattle.depths.specs.declared.Rule.the-variants.{EvenDepth, EvenNumber, FallingDepth, FallingNumber}
 
 -- 01: "D at most 32,767"
 abbrev pub greatestD : ℕ

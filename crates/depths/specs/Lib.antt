@@ -1,4 +1,3 @@
 -- The definitions that the contracts of this crate cite, and those of the crates built on it.
 pub mod Depths
 pub mod Promised
-pub mod Cuts

@@ -5,8 +5,8 @@ use mathlib.Core.List.{List, [], _∷_, _++_}
 use Prim.Native.Nat.{ℕ, suc, _+_, _-_, _*_, _≤_, _<_}
 use lib.ListN.{length, replicate, getD}
 use Rattle.division.specs.Division.{sum, greatest, Evenly}
-use Rattle.depths.specs.declared.rule.Rule.{Rule}
-use Rattle.depths.specs.declared.rule.Rule.the-variants.{EvenDepth, EvenNumber, FallingDepth, FallingNumber}
+use Rattle.depths.specs.declared.Rule.{Rule}
+use Rattle.depths.specs.declared.Rule.the-variants.{EvenDepth, EvenNumber, FallingDepth, FallingNumber}
 
 -- how much each cut takes, the first from the depth x on
 unfoldable pub taken : ℕ → List ℕ → List ℕ

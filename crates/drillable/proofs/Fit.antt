@@ -4,10 +4,10 @@ use mathlib.Core.Path.{_≡_, ap}
 use mathlib.Core.Bool.{Bool, false}
 use Prim.Native.Nat.{ℕ, _+_, _≤_}
 use Rattle.telling.proofs.Tells.{Tells}
-use Rattle.drilling.specs.Bites.{biting, hasZero}
+use Rattle.bites.specs.Bites.{biting, hasZero}
 use Rattle.drilling.specs.Drilling.{strokeOf}
-use Rattle.drilling.proofs.Rows.{no-room}
-use Rattle.bores.specs.declared.cursor.Cursor.{Cursor}
+use Rattle.bites.proofs.Rows.{no-room}
+use Rattle.bores.specs.declared.Cursor.{Cursor}
 use Rattle.bores.specs.Cursor.{bitesOf, Ready, Sound}
 
 -- nothing left has no bite

@@ -1,11 +1,11 @@
 // Whether a bore that comes back from a caller is one that `bores` can hand out: a caller may have changed it, and then its next record would be no record of a bore.
 // Every cursor that was opened, or is left behind a record, passes.
-use bores::cursor::Cursor;
-use bores::cursor::Stage;
+use bores::Cursor;
+use bores::Stage;
 ghost use mathlib.Core.Path.{_≡_};
 ghost use mathlib.Core.Bool.{true};
 ghost use Prim.Native.Nat.{_≤_};
-ghost use Rattle.drilling.specs.Bites.{biting, hasZero};
+ghost use Rattle.bites.specs.Bites.{biting, hasZero};
 ghost use Rattle.bores.specs.Cursor.{Ready, Sound};
 
 // Whether a bite of those that are left is 0: none where nothing is left, and the first where it is 0 itself.
@@ -19,7 +19,7 @@ fn has_zero(bite: u32, less: u32, least: u32, left: u32) -> bool
     if bite == 0 {
         return true;
     }
-    drilling::bites::has_zero(bite, less, least, left)
+    bites::has_zero(bite, less, least, left)
 }
 
 // Where a bite is still to come, something is left.
@@ -44,7 +44,7 @@ pub fn is_fit(c: Cursor) -> bool
     ensures all { λ r. ⌜ (Sound c → r ≡ true) ⌝ }
 {
     let bore = c.bore;
-    let stroke = drilling::bore::stroke_of(bore);
+    let stroke = drilling::stroke_of(bore);
     if 100 < bore.less {
         return false;
     }

@@ -14,10 +14,10 @@ use mir.Val.{SFits}
 use Rattle.whole.proofs.Integers.{whole, range, sub-in, abs}
 use Rattle.division.specs.Division.{sum}
 use Rattle.axes.proofs.Places.{neither, both}
-use Rattle.drilling.specs.declared.bore.Bore.{Bore}
-use Rattle.drilling.specs.Bites.{biting, hasZero}
+use Rattle.drilling.specs.declared.Bore.{Bore}
+use Rattle.bites.specs.Bites.{biting, hasZero}
 use Rattle.drilling.specs.Drilling.{strokeOf, bites, wrong, biteCount}
-use Rattle.drilling.proofs.Rows.{some, biting-sum}
+use Rattle.bites.proofs.Rows.{some, biting-sum}
 
 pub record Asked (b : Bore) : Type 0 where
   pub part : b .less ≤ 100

@@ -12,13 +12,13 @@ use mir.Syntax.{w32}
 use mir.Val.{SFits}
 use Rattle.division.specs.Division.{sum}
 use Rattle.whole.proofs.Sides.{along-zero, arrives, toward}
-use Rattle.moves.specs.declared.record.Record.{Record}
+use Rattle.moves.specs.declared.Record.{Record}
 use Rattle.moves.specs.Kinds.{dwell}
 use Rattle.moves.specs.Form.{Fitting, AllFitting}
 use Rattle.axes.specs.Goes.{rapidTo, feedTo, dwellAt}
 use Rattle.axes.proofs.Every.{Every, joined, front, behind, all-fitting}
 use Rattle.axes.proofs.Fitting.{rapid-fitting, feed-fitting, dwell-fitting}
-use Rattle.drilling.specs.declared.bore.Bore.{Bore}
+use Rattle.drilling.specs.declared.Bore.{Bore}
 use Rattle.drilling.specs.Drilling.{strokeOf, wayOf, bites, wrong, deepAt, boreTo, outTo, clearing, boring, dwelling, drilling}
 use Rattle.drilling.proofs.Asked.{bites-sum, some-bites}
 

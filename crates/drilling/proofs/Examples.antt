@@ -10,10 +10,10 @@ use lib.ListN.{length}
 use Rattle.whole.specs.Signed.{minus}
 use Rattle.division.specs.Division.{count}
 use Rattle.moves.specs.Kinds.{rapid, feed, dwell}
-use Rattle.drilling.specs.declared.bore.Bore.{Bore}
-use Rattle.drilling.specs.Bites.{nextBite, biting, hasZero}
+use Rattle.drilling.specs.declared.Bore.{Bore}
+use Rattle.bites.specs.Bites.{nextBite, biting, hasZero}
 use Rattle.drilling.specs.Drilling.{bites, wrong, clearing, boring, dwelling, drilling, recordCount}
-use Rattle.drilling.proofs.Rows.{repeats-count}
+use Rattle.bites.proofs.Rows.{repeats-count}
 
 -- "G00/X00.000/Z3.000", "G87/Z-26.000": a stroke of 29 mm
 abbrev bore : Bool → ℕ → ℕ → ℕ → ℕ → Bore

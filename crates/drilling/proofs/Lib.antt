@@ -1,7 +1,4 @@
 -- The laws of the drilling cycles.
-pub mod Rows
-pub mod Falling
-pub mod Walking
 pub mod Asked
 pub mod Each
 pub mod Counts

@@ -4,13 +4,13 @@ use mathlib.Core.Path.{_≡_, sym, subst}
 use mathlib.Core.Bool.{false, _||_}
 use Prim.Native.Nat.{ℕ, _≤_}
 use lib.IntN.{ℤ}
-use Rattle.settings.specs.declared.limits.Limits.{Limits}
+use Rattle.settings.specs.declared.Limits.{Limits}
 use Rattle.settings.specs.Limits.{outsideSpan, outside}
 use Rattle.axes.specs.Limits.{anyOutside}
 use Rattle.axes.proofs.Every.{Ends, each-ends, none-outside}
 use Rattle.axes.proofs.Reaching.{span-between}
 use Rattle.axes.proofs.Places.{alike, neither, both}
-use Rattle.drilling.specs.declared.bore.Bore.{Bore}
+use Rattle.drilling.specs.declared.Bore.{Bore}
 use Rattle.drilling.specs.Drilling.{strokeOf, wayOf, wrong, deepAt, drilling}
 use Rattle.drilling.proofs.Each.{deep-target, drilling-every, bottom, home}
 

@@ -6,12 +6,12 @@ use Prim.Native.Nat.{ℕ, _+_, _-_, _*_}
 use lib.Dec.{ltb, eqb}
 use lib.IntN.{ℤ, _+ℤ_, _-ℤ_, natAbs}
 use lib.ListN.{length}
-use Rattle.whole.specs.declared.signed.Side.{Side}
+use Rattle.whole.specs.declared.Side.{Side}
 use Rattle.whole.specs.Signed.{sideOf, along}
-use Rattle.moves.specs.declared.record.Record.{Record}
+use Rattle.moves.specs.declared.Record.{Record}
 use Rattle.moves.specs.Kinds.{rapid, feed, dwell}
-use Rattle.drilling.specs.declared.bore.Bore.{Bore}
-use Rattle.drilling.specs.Bites.{biting, hasZero}
+use Rattle.drilling.specs.declared.Bore.{Bore}
+use Rattle.bites.specs.Bites.{biting, hasZero}
 
 -- A BORE { full, x, start, target, first, less, least, dwell, back, f, g95 } goes in along Z at the place x; `full` is G88.
 abbrev pub strokeOf : Bore → ℕ

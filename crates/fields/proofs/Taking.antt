@@ -6,7 +6,7 @@ use Prim.Native.Nat.{ℕ, suc, _+_, _-_, _*_, _<_, _≤_}
 use native.Mathlib.Omega.{arith}
 use lib.ListN.{length, getD, take, drop, length-drop}
 use lib.Seq.{drop-cons, take-all}
-use Rattle.whole.specs.Bytes.{valueOf}
+use Rattle.octets.specs.Bytes.{valueOf}
 use Rattle.moves.specs.Reading.{numberAt}
 
 -- ---- the bytes from a place on

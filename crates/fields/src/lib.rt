@@ -1,14 +1,14 @@
 // A record taken from the bytes of a list. It judges nothing.
-use moves::record::Listed;
-use moves::record::Origin;
-use moves::record::Record;
+use moves::Listed;
+use moves::Origin;
+use moves::Record;
 ghost use mathlib.Core.Path.{_≡_};
 ghost use Prim.Native.Nat.{_+_, _<_, _≤_};
 ghost use lib.ListN.{length, take, drop};
 ghost use Rattle.moves.specs.Form.{recordSize, recordStart, programAt};
 ghost use Rattle.moves.specs.Reading.{numberAt, recordIn, originIn, listedIn};
 ghost use Rattle.lawful.specs.Versions.{firstRecordSize, startIn};
-ghost use Rattle.lawful.specs.declared.versions.Version.the-variants.{One};
+ghost use Rattle.lawful.specs.declared.Version.the-variants.{One};
 
 fn four_at(part: &[u8], at: usize) -> [u8; 4]
     requires { ⌜ at + 4 ≤ length (now part) ⌝ }
@@ -42,9 +42,9 @@ pub fn record_in(part: &[u8]) -> Record
     Record {
         kind: part[moves::AT_KIND],
         flags: part[moves::AT_FLAGS],
-        x: whole::bytes::i32_of_bytes(x),
-        z: whole::bytes::i32_of_bytes(z),
-        value: whole::bytes::u32_of_bytes(value),
+        x: octets::i32_of_bytes(x),
+        z: octets::i32_of_bytes(z),
+        value: octets::u32_of_bytes(value),
     }
 }
 
@@ -77,6 +77,6 @@ pub fn first_at(list: &[u8], k: usize) -> Record
     requires { ⌜ startIn One k + firstRecordSize ≤ length (now list) ⌝ }
     ensures { λ r. ⌜ r ≡ recordIn (drop (startIn One k) (now (list .entry))) ⌝ }
 {
-    let first = moves::HEADER_SIZE + lawful::versions::FIRST_RECORD_SIZE * k;
+    let first = moves::HEADER_SIZE + lawful::FIRST_RECORD_SIZE * k;
     record_in(&list[first..])
 }

@@ -14,10 +14,10 @@ use Rattle.tape.proofs.Lining.{lines-end, lines-more}
 use Rattle.block.specs.Words.{headOf, startOf}
 use Rattle.block.proofs.Lines.{headFrom, head-from}
 use Rattle.block.proofs.Heads.{HeadIn, head-in}
-use Rattle.block.specs.declared.words.LineStart.{LineStart}
-use Rattle.block.specs.declared.words.LineStart.the-variants as start
-use Rattle.block.specs.declared.words.Head.the-variants.{Blank, ProgramLine, BlockLine, Other}
-use Rattle.block.specs.declared.words.Head.{Head}
+use Rattle.block.specs.declared.LineStart.{LineStart}
+use Rattle.block.specs.declared.LineStart.the-variants as start
+use Rattle.block.specs.declared.Head.the-variants.{Blank, ProgramLine, BlockLine, Other}
+use Rattle.block.specs.declared.Head.{Head}
 use Rattle.finding.specs.declared.Here.{Here}
 use Rattle.finding.specs.declared.Here.the-variants.{Is, Ends, On}
 use Rattle.finding.specs.declared.NextBlock.the-variants as next

@@ -15,8 +15,8 @@ use Rattle.places.proofs.Walks.{table-row, table-program, table-block}
 use Rattle.tape.specs.Lines.{lineAt, LineIn, Text, textAt, lines}
 use Rattle.tape.proofs.Lining.{line-in, lines-more, lines-end}
 use Rattle.block.specs.Words.{headOf}
-use Rattle.block.specs.declared.words.Head.{Head}
-use Rattle.block.specs.declared.words.Head.the-variants.{Blank, ProgramLine, BlockLine, Other}
+use Rattle.block.specs.declared.Head.{Head}
+use Rattle.block.specs.declared.Head.the-variants.{Blank, ProgramLine, BlockLine, Other}
 use Rattle.finding.specs.declared.Here.the-variants.{Is, On}
 use Rattle.finding.specs.Finding.{Program, Block, hereOf, foundBy, seekLine, findProgram, blockOfProgram}
 use Rattle.finding.specs.Finds.{Finds}

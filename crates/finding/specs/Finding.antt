@@ -8,10 +8,10 @@ use lib.Dec.{eqb}
 use lib.ListN.{length}
 use Rattle.tape.specs.Lines.{Text, textAt, lineAt, lines}
 use Rattle.block.specs.Words.{headOf, startOf}
-use Rattle.block.specs.declared.words.Head.{Head}
-use Rattle.block.specs.declared.words.Head.the-variants.{Blank, ProgramLine, BlockLine, Other}
-use Rattle.block.specs.declared.words.LineStart.{LineStart}
-use Rattle.block.specs.declared.words.LineStart.the-variants as start
+use Rattle.block.specs.declared.Head.{Head}
+use Rattle.block.specs.declared.Head.the-variants.{Blank, ProgramLine, BlockLine, Other}
+use Rattle.block.specs.declared.LineStart.{LineStart}
+use Rattle.block.specs.declared.LineStart.the-variants as start
 use Rattle.finding.specs.declared.BlockAt.{BlockAt}
 use Rattle.finding.specs.declared.NextBlock.{NextBlock}
 use Rattle.finding.specs.declared.NextBlock.the-variants as next

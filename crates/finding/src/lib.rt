@@ -1,8 +1,8 @@
 // Finding the next block of a program: a walk to the next line that is one. (01: "Running a program runs its blocks".) What a walk along the whole tape would find of a program or of the
 // block of a number is defined here too; the code looks both up in the table of places, and a law says that this is the same.
 // The tape that is handed in begins where the whole tape does, so that places count from there, and ends where its reading ended: nothing behind that exists.
-use block::words::Head;
-use block::words::LineStart;
+use block::Head;
+use block::LineStart;
 ghost use mathlib.Core.Path.{_≡_};
 ghost use Prim.Native.Nat.{_≤_};
 ghost use lib.ListN.{length};
@@ -67,7 +67,7 @@ pub fn next_block(tape: &[u8], from: usize) -> NextBlock
         let line = tape::line::line_at(tape, p);
         let stop = line.stop;
         let after = line.after;
-        let start = block::words::start_of(&tape[p..stop]);
+        let start = block::start_of(&tape[p..stop]);
         match start {
             LineStart::Blank => {
                 p = after;

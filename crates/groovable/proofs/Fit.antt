@@ -12,7 +12,7 @@ use mir.Syntax.{w32}
 use mir.Val.{SFits}
 use borrow.Author.Tests.{eq-eqb, ne-eqb}
 use Rattle.telling.proofs.Tells.{Tells}
-use Rattle.whole.specs.declared.signed.Side.the-variants.{Minus}
+use Rattle.whole.specs.declared.Side.the-variants.{Minus}
 use Rattle.whole.specs.Signed.{minus, along}
 use Rattle.whole.proofs.Integers.{add-in, sub-in, up-neg, down-neg, abs, range, fits}
 use Rattle.division.specs.declared.Pieces.{Pieces}
@@ -21,10 +21,10 @@ use Rattle.division.specs.Carried.{rowOf}
 use Rattle.division.proofs.Divisions.{pieces-length, pieces-sum, count-above}
 use Rattle.division.proofs.Carrying.{divided-row, row-length}
 use Rattle.totals.proofs.Sums.{known-by-sum}
-use Rattle.grooving.specs.declared.groove.Way.{Way}
-use Rattle.grooving.specs.declared.groove.Groove.{Groove}
+use Rattle.grooving.specs.declared.Way.{Way}
+use Rattle.grooving.specs.declared.Groove.{Groove}
 use Rattle.grooving.specs.Grooving.{lengthOf, cutCount, cuts}
-use Rattle.plunges.specs.declared.cursor.Cursor.{Cursor}
+use Rattle.plunges.specs.declared.Cursor.{Cursor}
 use Rattle.plunges.specs.Cursor.{Ready, Sound}
 
 -- ---- how many cuts there are

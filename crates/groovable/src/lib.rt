@@ -1,17 +1,17 @@
 // Whether a groove that comes back from a caller is one that `plunges` can hand out: a caller may have changed it, and then its next record would be no record of a groove.
 // Every cursor that was opened, or is left behind a record, passes. No cut and no plunge is gone through for it.
 use division::Pieces;
-use grooving::groove::Groove;
-use grooving::groove::Way;
-use plunges::cursor::Cursor;
-use plunges::cursor::Stage;
+use grooving::Groove;
+use grooving::Way;
+use plunges::Cursor;
+use plunges::Stage;
 ghost use mathlib.Core.Path.{_≡_};
 ghost use mathlib.Core.Bool.{true};
 ghost use Prim.Native.Nat.{_+_, _≤_, _<_, _^_};
 ghost use lib.IntN.{_+ℤ_};
 ghost use mir.Syntax.{w32};
 ghost use mir.Val.{SFits};
-ghost use Rattle.whole.specs.declared.signed.Side.the-variants.{Minus};
+ghost use Rattle.whole.specs.declared.Side.the-variants.{Minus};
 ghost use Rattle.whole.specs.Signed.{along};
 ghost use Rattle.division.specs.Division.{sum};
 ghost use Rattle.division.specs.Carried.{rowOf};
@@ -26,7 +26,7 @@ fn cut_count(g: Groove) -> u32
     ensures { λ r. ⌜ r ≡ cutCount g ⌝ }
 {
     let depth = g.depth;
-    let deep = grooving::groove::length_of(depth);
+    let deep = grooving::length_of(depth);
     let piece = g.piece;
     if piece == 0 {
         return 1;
@@ -43,7 +43,7 @@ fn are_cuts(p: Pieces, g: Groove) -> bool
     ensures all { λ r. ⌜ ((0 < p .left) × (rowOf p ≡ cuts g) → r ≡ true) ⌝ }
 {
     let depth = g.depth;
-    let deep = grooving::groove::length_of(depth);
+    let deep = grooving::length_of(depth);
     let n = cut_count(g);
     if p.left == 0 {
         return false;
@@ -59,7 +59,7 @@ fn stays_within(depth: Way, deep: u32, cuts: Pieces) -> bool
     ensures sound { λ r. ⌜ (r ≡ true → deep + sum (rowOf cuts) ≤ lengthOf depth) ⌝ }
     ensures all { λ r. ⌜ (deep + sum (rowOf cuts) ≤ lengthOf depth → r ≡ true) ⌝ }
 {
-    let length = grooving::groove::length_of(depth) as u64;
+    let length = grooving::length_of(depth) as u64;
     let cut = totals::total(cuts);
     if length < cut {
         return false;
@@ -72,7 +72,7 @@ fn fits_across(width: i32, steps: Pieces) -> bool
     ensures sound { λ r. ⌜ (r ≡ true → (sum (rowOf steps) < 2 ^ 32) × SFits w32 (width +ℤ along Minus (sum (rowOf steps)))) ⌝ }
     ensures all { λ r. ⌜ ((sum (rowOf steps) < 2 ^ 32) × SFits w32 (width +ℤ along Minus (sum (rowOf steps))) → r ≡ true) ⌝ }
 {
-    let room = whole::signed::distance(width, LEAST);
+    let room = whole::distance(width, LEAST);
     let across = totals::total(steps);
     across <= (room as u64)
 }

@@ -11,11 +11,11 @@ use lib.Signed.{leZ, _<ℤ_}
 use mir.Syntax.{w32}
 use mir.Val.{SFits}
 use borrow.Author.Tests.{ltb-false, lt-ltb, leb-false, eqb-false}
-use Rattle.whole.specs.declared.signed.Side.the-variants.{Minus}
+use Rattle.whole.specs.declared.Side.the-variants.{Minus}
 use Rattle.whole.specs.Signed.{along}
 use Rattle.whole.proofs.Integers.{whole, sub-in}
 use Rattle.whole.proofs.Sides.{is-minus, toward}
-use Rattle.grooving.specs.declared.groove.Groove.{Groove}
+use Rattle.grooving.specs.declared.Groove.{Groove}
 use Rattle.grooving.specs.Grooving.{lengthOf, wayOf, wrong}
 
 pub record Asked (g : Groove) : Type 0 where

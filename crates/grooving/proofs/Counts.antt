@@ -11,16 +11,16 @@ use lib.ListN.{length, length-append}
 use mir.Syntax.{w32}
 use mir.Val.{SFits}
 use borrow.Author.Tests.{eq-eqb, ne-eqb}
-use Rattle.whole.specs.declared.signed.Side.the-variants.{Minus}
+use Rattle.whole.specs.declared.Side.the-variants.{Minus}
 use Rattle.whole.specs.Signed.{along}
 use Rattle.whole.proofs.Sides.{toward}
-use Rattle.moves.specs.declared.record.Record.{Record}
+use Rattle.moves.specs.declared.Record.{Record}
 use Rattle.moves.specs.Form.{Fitting, AllFitting}
 use Rattle.axes.specs.Goes.{dwellAt}
 use Rattle.axes.proofs.Every.{all-fitting}
 use Rattle.axes.proofs.Fitting.{rapid-fitting, feed-fitting, dwell-fitting}
-use Rattle.grooving.specs.declared.groove.Way.{Way}
-use Rattle.grooving.specs.declared.groove.Groove.{Groove}
+use Rattle.grooving.specs.declared.Way.{Way}
+use Rattle.grooving.specs.declared.Groove.{Groove}
 use Rattle.grooving.specs.Grooving.{lengthOf, wrong, rest, stepCount, steps, cuts, outTo, deepAt, cutting, dwelling, plunge, plunges, afterFirst, grooving, plungeCount, recordCount}
 use Rattle.grooving.proofs.Asked.{width-fits}
 use Rattle.grooving.proofs.Rows.{some-cuts, cuts-length, steps-length}

@@ -10,14 +10,14 @@ use native.Mathlib.Omega.{arith}
 use lib.Dec.{eqb}
 use lib.IntN.{ℤ, _+ℤ_}
 use lib.ListN.{length}
-use Rattle.whole.specs.declared.signed.Side.the-variants.{Minus}
+use Rattle.whole.specs.declared.Side.the-variants.{Minus}
 use Rattle.whole.specs.Signed.{along}
 use Rattle.division.specs.Division.{sum}
 use Rattle.whole.proofs.Sides.{along-add, along-zero, arrives}
-use Rattle.moves.specs.declared.record.Record.{Record}
+use Rattle.moves.specs.declared.Record.{Record}
 use Rattle.axes.specs.Goes.{dwellAt}
 use Rattle.axes.proofs.Every.{Every, joined, front, behind}
-use Rattle.grooving.specs.declared.groove.Groove.{Groove}
+use Rattle.grooving.specs.declared.Groove.{Groove}
 use Rattle.grooving.specs.Grooving.{lengthOf, wayOf, wrong, rest, steps, lastWidth, cuts, cutTo, outTo, deepAt, cutting, dwelling, plunge, plunges, afterFirst, grooving}
 use Rattle.grooving.proofs.Rows.{some-cuts, cuts-length, cuts-sum, steps-sum}
 

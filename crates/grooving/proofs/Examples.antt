@@ -7,10 +7,10 @@ use Prim.Native.Nat.{ℕ}
 use lib.IntN.{ℤ, pos, negsuc}
 use lib.ListN.{length}
 use Rattle.division.specs.Division.{count, pieces}
-use Rattle.moves.specs.declared.record.Record.{Record}
+use Rattle.moves.specs.declared.Record.{Record}
 use Rattle.moves.specs.Kinds.{rapid, feed, dwell}
 use Rattle.axes.specs.Goes.{rapidTo, feedTo, dwellAt}
-use Rattle.grooving.specs.declared.groove.Groove.{Groove}
+use Rattle.grooving.specs.declared.Groove.{Groove}
 use Rattle.grooving.specs.Grooving.{wrong, stepCount, steps, lastWidth, cutCount, cuts, cutting, dwelling, plunge, plunges, grooving, plungeCount, recordCount}
 
 -- "P6: 001's second G86 example, X42 Z-24 to X26 Z-32, D3 1500, D5 3000: plunges at Z -24, -26.5, -29; depth four of 2,667 and two of 2,666 (diameter); 39 records."

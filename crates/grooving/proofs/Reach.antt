@@ -5,14 +5,14 @@ use mathlib.Core.Path.{_≡_, sym, _∙_, subst}
 use mathlib.Core.Bool.{Bool, false, _||_}
 use Prim.Native.Nat.{ℕ, _≤_}
 use lib.IntN.{ℤ}
-use Rattle.whole.specs.declared.signed.Side.the-variants.{Minus}
-use Rattle.settings.specs.declared.limits.Limits.{Limits}
+use Rattle.whole.specs.declared.Side.the-variants.{Minus}
+use Rattle.settings.specs.declared.Limits.{Limits}
 use Rattle.settings.specs.Limits.{outsideSpan}
 use Rattle.axes.specs.Limits.{outsideTo, anyOutside}
 use Rattle.axes.proofs.Every.{Ends, each-ends, none-outside}
 use Rattle.axes.proofs.Reaching.{span-between}
 use Rattle.axes.proofs.Places.{alike, neither, both, inSpan, acrossSpan, Within, within, not-outside, rapid-ends, feed-ends, dwell-ends}
-use Rattle.grooving.specs.declared.groove.Groove.{Groove}
+use Rattle.grooving.specs.declared.Groove.{Groove}
 use Rattle.grooving.specs.Grooving.{lengthOf, wayOf, wrong, rest, lastWidth, deepAt, grooving}
 use Rattle.grooving.proofs.Each.{widthAt, deep-target, grooving-every, first-out, last-bottom}
 

@@ -10,7 +10,7 @@ use lib.ListN.{length}
 use borrow.Author.Tests.{eq-eqb, ne-eqb}
 use Rattle.division.specs.Division.{count, pieces, sum}
 use Rattle.division.proofs.Divisions.{count-above, few-pieces, pieces-length, pieces-sum}
-use Rattle.grooving.specs.declared.groove.Groove.{Groove}
+use Rattle.grooving.specs.declared.Groove.{Groove}
 use Rattle.grooving.specs.Grooving.{lengthOf, wrong, rest, stepCount, steps, cutCount, cuts, plungeCount}
 use Rattle.grooving.proofs.Asked.{asked}
 

@@ -9,14 +9,14 @@ use Prim.Native.Nat.{ℕ, _+_, _-_, _*_}
 use lib.Dec.{leb, ltb, eqb}
 use lib.IntN.{ℤ, _+ℤ_, _-ℤ_, natAbs}
 use lib.Signed.{leZ}
-use Rattle.whole.specs.declared.signed.Side.{Side}
-use Rattle.whole.specs.declared.signed.Side.the-variants.{Minus}
+use Rattle.whole.specs.declared.Side.{Side}
+use Rattle.whole.specs.declared.Side.the-variants.{Minus}
 use Rattle.whole.specs.Signed.{sideOf, along}
 use Rattle.division.specs.Division.{count, pieces}
-use Rattle.moves.specs.declared.record.Record.{Record}
+use Rattle.moves.specs.declared.Record.{Record}
 use Rattle.axes.specs.Goes.{rapidTo, feedTo, dwellAt}
-use Rattle.grooving.specs.declared.groove.Way.{Way}
-use Rattle.grooving.specs.declared.groove.Groove.{Groove}
+use Rattle.grooving.specs.declared.Way.{Way}
+use Rattle.grooving.specs.declared.Groove.{Groove}
 
 -- A GROOVE { facing, depth, width, tool, overlap, piece, back, dwell, f, g95 } plunges along `depth` and goes on along `width`. Alongside these are X and Z, facing Z and X;
 -- tool and overlap are counted on the width axis, piece and back on the depth axis.

@@ -3,21 +3,21 @@
 use mathlib.Core.Path.{_≡_, refl, sym, ap, _∙_}
 use mathlib.Core.Bool.{Bool, true, false, not, _&&_, false≢true}
 use mathlib.Core.List.{List, [], _∷_, _++_}
-use Rattle.moves.specs.declared.record.Record.{Record}
-use Rattle.turning.specs.Cursor as turn
+use Rattle.moves.specs.declared.Record.{Record}
+use Rattle.passes.specs.Cursor as turn
 use Rattle.threads.specs.Cursor as thread
 use Rattle.plunges.specs.Cursor as groove
 use Rattle.bores.specs.Cursor as drill
-use Rattle.turning.proofs.Cursors as turning
+use Rattle.passes.proofs.Cursors as turning
 use Rattle.threads.proofs.Cursors as threading
 use Rattle.plunges.proofs.Cursors as grooving
 use Rattle.bores.proofs.Cursors as drilling
 use Rattle.stages.specs.Cursor.{singleOf, behindDeed, behindAt, restAt, restFrom, deedRow, restOf, stageOver, cycleOver, over, Sound, Makes, Follows}
-use Rattle.stages.specs.declared.cursor.Stage.{Stage}
-use Rattle.stages.specs.declared.cursor.Stage.the-variants.{Speed, Tool, Spindle, Coolant, Deed, Centre, Stop, Over}
-use Rattle.stages.specs.declared.cursor.Due.{Due}
-use Rattle.stages.specs.declared.cursor.Due.the-variants.{Turning, Threading, Grooving, Drilling, Single}
-use Rattle.stages.specs.declared.cursor.Plan.{Plan}
+use Rattle.stages.specs.declared.Stage.{Stage}
+use Rattle.stages.specs.declared.Stage.the-variants.{Speed, Tool, Spindle, Coolant, Deed, Centre, Stop, Over}
+use Rattle.stages.specs.declared.Due.{Due}
+use Rattle.stages.specs.declared.Due.the-variants.{Turning, Threading, Grooving, Drilling, Single}
+use Rattle.stages.specs.declared.Plan.{Plan}
 use Rattle.stages.proofs.Cursors.{stop-due, stop-none}
 
 never : {A : Type 0} → false ≡ true → A

@@ -1,8 +1,8 @@
 // A block that is opened hands out its records one after the other, whatever its deed; none is left where it is over. What is due stands in `stages`.
-use moves::record::Record;
-use stages::cursor::Due;
-use stages::cursor::Plan;
-use stages::cursor::Stage;
+use moves::Record;
+use stages::Due;
+use stages::Plan;
+use stages::Stage;
 ghost use mathlib.Core.Path.{_≡_};
 ghost use mathlib.Core.Bool.{false};
 ghost use Rattle.stages.specs.Cursor.{stageOver, cycleOver, over, Sound, Makes};
@@ -33,10 +33,10 @@ fn is_cycle_over(due: Due) -> bool
     ensures { λ r. ⌜ r ≡ cycleOver due ⌝ }
 {
     match due {
-        Due::Turning(c) => turning::cursor::is_over(c),
-        Due::Threading(c) => threads::cursor::is_over(c),
-        Due::Grooving(c) => plunges::cursor::is_over(c),
-        Due::Drilling(c) => bores::cursor::is_over(c),
+        Due::Turning(c) => passes::is_over(c),
+        Due::Threading(c) => threads::is_over(c),
+        Due::Grooving(c) => plunges::is_over(c),
+        Due::Drilling(c) => bores::is_over(c),
         Due::Single(_) => false,
     }
 }
@@ -46,10 +46,10 @@ pub fn is_over(p: Plan, due: Due) -> bool
     ensures { λ r. ⌜ r ≡ over p due ⌝ }
 {
     match due {
-        Due::Turning(c) => turning::cursor::is_over(c) & !p.stops,
-        Due::Threading(c) => threads::cursor::is_over(c) & !p.stops,
-        Due::Grooving(c) => plunges::cursor::is_over(c) & !p.stops,
-        Due::Drilling(c) => bores::cursor::is_over(c) & !p.stops,
+        Due::Turning(c) => passes::is_over(c) & !p.stops,
+        Due::Threading(c) => threads::is_over(c) & !p.stops,
+        Due::Grooving(c) => plunges::is_over(c) & !p.stops,
+        Due::Drilling(c) => bores::is_over(c) & !p.stops,
         Due::Single(stage) => is_stage_over(stage),
     }
 }
@@ -61,7 +61,7 @@ pub fn next(p: Plan, due: Due) -> Handed
 {
     if is_cycle_over(due) {
         return Handed {
-            record: stages::cursor::single(p, Stage::Stop),
+            record: stages::single(p, Stage::Stop),
             rest: Due::Single(Stage::Over),
         };
     }
@@ -75,7 +75,7 @@ fn next_on(p: Plan, due: Due) -> Handed
 {
     match due {
         Due::Turning(c) => {
-            let handed = turning::cursor::next(c);
+            let handed = passes::next(c);
             let record = handed.record;
             let behind = handed.rest;
             Handed {
@@ -84,7 +84,7 @@ fn next_on(p: Plan, due: Due) -> Handed
             }
         }
         Due::Threading(c) => {
-            let handed = threads::cursor::next(c);
+            let handed = threads::next(c);
             let record = handed.record;
             let behind = handed.rest;
             Handed {
@@ -93,7 +93,7 @@ fn next_on(p: Plan, due: Due) -> Handed
             }
         }
         Due::Grooving(c) => {
-            let handed = plunges::cursor::next(c);
+            let handed = plunges::next(c);
             let record = handed.record;
             let behind = handed.rest;
             Handed {
@@ -102,7 +102,7 @@ fn next_on(p: Plan, due: Due) -> Handed
             }
         }
         Due::Drilling(c) => {
-            let handed = bores::cursor::next(c);
+            let handed = bores::next(c);
             let record = handed.record;
             let behind = handed.rest;
             Handed {
@@ -111,8 +111,8 @@ fn next_on(p: Plan, due: Due) -> Handed
             }
         }
         Due::Single(stage) => Handed {
-            record: stages::cursor::single(p, stage),
-            rest: stages::cursor::after(p, stage),
+            record: stages::single(p, stage),
+            rest: stages::after(p, stage),
         },
     }
 }

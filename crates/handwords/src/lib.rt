@@ -2,14 +2,14 @@
 // A record of a word before the deed leaves the deed whole, so the deed is kept; from the deed on, what is due is all that is kept.
 // Reading is total: any words are something due, and whether that is sound is asked elsewhere. The plan of the block, and where it came from, stand in `planwords`.
 use cyclewords::DUE_WORDS;
-use stages::cursor::Due;
-use stages::cursor::Stage;
+use stages::Due;
+use stages::Stage;
 ghost use mathlib.Core.Path.{_≡_};
 ghost use mathlib.Core.Bool.{true, false};
 ghost use Prim.Native.Nat.{_<_};
 ghost use lib.ListN.{length};
-ghost use Rattle.stages.specs.declared.cursor.Due.{Due};
-ghost use Rattle.stages.specs.declared.cursor.Due.the-variants.{Single};
+ghost use Rattle.stages.specs.declared.Due.{Due};
+ghost use Rattle.stages.specs.declared.Due.the-variants.{Single};
 ghost use Rattle.cells.specs.Numbers.{at};
 ghost use Rattle.cyclewords.specs.Sizes.{dueWords};
 ghost use Rattle.resumable.specs.Kept.{leads, kept};

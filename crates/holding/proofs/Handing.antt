@@ -4,14 +4,14 @@ use mathlib.Core.Path.{_≡_, refl, sym, ap, subst, _∙_}
 use mathlib.Core.Bool.{true, false}
 use mathlib.Core.List.{[], _∷_}
 use Rattle.moves.specs.Form.{stamped}
-use Rattle.moves.specs.declared.record.Record.{Record}
-use Rattle.moves.specs.declared.record.Origin.{Origin}
+use Rattle.moves.specs.declared.Record.{Record}
+use Rattle.moves.specs.declared.Origin.{Origin}
 use Rattle.stages.specs.Cursor as cursor
-use Rattle.stages.specs.declared.cursor.Cursor.{Cursor}
-use Rattle.stages.specs.declared.cursor.Due.{Due}
+use Rattle.stages.specs.declared.Cursor.{Cursor}
+use Rattle.stages.specs.declared.Due.{Due}
 use Rattle.handing.proofs.Cursors.{rest-none}
-use Rattle.taking.specs.declared.step.Hand.{Hand}
-use Rattle.taking.specs.declared.step.Hand.the-variants.{Nothing, Block}
+use Rattle.taking.specs.declared.Hand.{Hand}
+use Rattle.taking.specs.declared.Hand.the-variants.{Nothing, Block}
 use Rattle.taking.specs.Hands.{inHand, HandSound}
 use Rattle.holding.specs.Held.{Some, Held}
 

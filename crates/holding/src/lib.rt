@@ -1,12 +1,12 @@
 // What is in hand of a block that was opened: a record and those behind it, or nothing. (02, request 12: "hands out the next record".)
 // It comes from the block's own cursor, as what the list engine writes does.
-use moves::record::Listed;
-use moves::record::Origin;
-use stages::cursor::Cursor;
-use taking::step::Hand;
+use moves::Listed;
+use moves::Origin;
+use stages::Cursor;
+use taking::Hand;
 ghost use mathlib.Core.Path.{_≡_};
 ghost use mathlib.Core.List.{_∷_};
-ghost use Rattle.taking.specs.declared.step.Hand.the-variants.{Block};
+ghost use Rattle.taking.specs.declared.Hand.the-variants.{Block};
 ghost use Rattle.taking.specs.Hands.{inHand, HandSound};
 ghost use Rattle.holding.specs.Held.{Held};
 

@@ -4,9 +4,9 @@ use mathlib.Core.Bool.{Bool, true, false}
 use mathlib.Core.List.{List, _∷_}
 use Prim.Native.Nat.{ℕ}
 use lib.ListN.{length}
-use Rattle.whole.specs.Bytes.{laid}
+use Rattle.octets.specs.Bytes.{laid}
 use Rattle.moves.specs.Form.{recordBytes}
-use Rattle.moves.specs.declared.record.Listed.{Listed}
+use Rattle.moves.specs.declared.Listed.{Listed}
 use Rattle.taking.specs.Hands.{inHand}
 use Rattle.holding.specs.Held.{Held}
 pub use Rattle.statewords.specs.State.{stateWords, dueIn, planIn, goingIn, isEmptyIn, handFrom, handKept, PutMeets}

@@ -13,12 +13,12 @@ use Rattle.alarms.specs.Numbers.{badSettings, tapeTooLong, bufferTooShort, plac
 use Rattle.moves.specs.Form.{headerSize}
 use Rattle.reading.specs.Reading.{readOf}
 use Rattle.reading.specs.Filling.{readWith, mostPlaces}
-use Rattle.reading.specs.declared.read.Read.{Read}
+use Rattle.reading.specs.declared.Read.{Read}
 use Rattle.reading.proofs.Enough as reads
 use Rattle.reading.proofs.Staying.{Stays, same, short, stays}
 use Rattle.answers.specs.declared.Answer.the-variants.{Alarm}
 use Rattle.settings.specs.Wrong.{settingsWrong}
-use Rattle.settings.specs.declared.control.Settings.{Settings}
+use Rattle.settings.specs.declared.Settings.{Settings}
 use Rattle.interpreter.specs.Answers.{Result, refused, readThen, longestTape, interpretationBy, interpretation, firstInterpretation, answerOf, laidBy, bufferOf}
 
 module _ (tape : List ℕ) (table : List ℤ) (set : Settings) (size : ℕ) (long : mostPlaces ≤ size) where

@@ -9,7 +9,7 @@ use lib.IntN.{ℤ}
 use lib.ListN.{length, take, drop, length-append}
 use lib.Seq.{take-at}
 use borrow.Author.Tests.{lt-ltb, le-ltb}
-use Rattle.whole.proofs.Laying.{laid-nil}
+use Rattle.octets.proofs.Laying.{laid-nil}
 use Rattle.alarms.specs.Numbers.{badSettings, tapeTooLong, bufferTooShort, programMissing}
 use Rattle.moves.specs.Form.{headerSize, recordStart, recordLimit, rowBytes}
 use Rattle.tape.specs.Lines.{lines}
@@ -17,22 +17,22 @@ use Rattle.places.specs.Places.{Row, programIn}
 use Rattle.finding.specs.Finding.{findProgram}
 use Rattle.finding.specs.Finds.{Finds}
 use Rattle.reading.specs.Filling.{Readings, told, readWith, placesBehind}
-use Rattle.reading.specs.declared.read.TapeRead.{TapeRead}
-use Rattle.reading.specs.declared.read.Read.the-variants as read
+use Rattle.reading.specs.declared.TapeRead.{TapeRead}
+use Rattle.reading.specs.declared.Read.the-variants as read
 use Rattle.reading.proofs.Tabled.{finds, ends-on}
 use Rattle.places.specs.declared.Found.{Found}
 use Rattle.places.specs.declared.Found.the-variants.{At, Nowhere}
-use Rattle.reading.specs.declared.read.Read.{Read}
-use Rattle.state.proofs.Ranges.{start-sound}
-use Rattle.settings.specs.declared.control.Settings.{Settings}
+use Rattle.reading.specs.declared.Read.{Read}
+use Rattle.targets.proofs.Ranges.{start-sound}
+use Rattle.settings.specs.declared.Settings.{Settings}
 use Rattle.moves.proofs.Room.{room-few}
 use Rattle.ahead.specs.Ahead.{mostCalls}
 use Rattle.taking.specs.Steps.{Task, taskOf}
 use Rattle.steps.specs.Meets.{Ready, Fit}
-use Rattle.taking.specs.declared.step.Run.{Run}
+use Rattle.taking.specs.declared.Run.{Run}
 use Rattle.answers.specs.declared.Answer.{Answer}
 use Rattle.answers.specs.declared.Answer.the-variants.{Alarm}
-use Rattle.runners.specs.declared.run.Outcome.{Outcome}
+use Rattle.runners.specs.declared.Outcome.{Outcome}
 use Rattle.runners.specs.Runs.{listedOf, programRun}
 use Rattle.runners.specs.Meets.{Begins, RanMeets}
 use Rattle.settings.specs.Points.{withPoints}

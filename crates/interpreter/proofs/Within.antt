@@ -5,8 +5,8 @@ use mathlib.Core.List.{List}
 use Prim.Native.Nat.{ℕ}
 use lib.ListN.{length, take}
 use lib.Seq.{length-take-le}
-use Rattle.reading.specs.declared.read.Read.{Read}
-use Rattle.reading.specs.declared.read.Read.the-variants.{Whole}
+use Rattle.reading.specs.declared.Read.{Read}
+use Rattle.reading.specs.declared.Read.the-variants.{Whole}
 use Rattle.interpreter.specs.Known.{Lent, ReadIn}
 
 module _ (tape places : List ℕ) (count : ℕ) {r : Read} (h : ReadIn tape places count r) {first end : ℕ} (e : r ≡ Whole first end) where

@@ -7,7 +7,7 @@ use Prim.Native.Nat.{ℕ}
 use lib.Dec.{ltb}
 use lib.IntN.{ℤ}
 use lib.ListN.{length, take}
-use Rattle.whole.specs.Bytes.{laid}
+use Rattle.octets.specs.Bytes.{laid}
 use Rattle.alarms.specs.Numbers.{badSettings, tapeTooLong, bufferTooShort, programMissing}
 use Rattle.moves.specs.Form.{headerSize, recordStart, rowBytes}
 use Rattle.tape.specs.Lines.{lines}
@@ -17,9 +17,9 @@ use Rattle.reading.specs.Filling.{readWith, placesBehind}
 use Rattle.reading.specs.Reading as reads
 use Rattle.places.specs.declared.Found.{Found}
 use Rattle.places.specs.declared.Found.the-variants.{At, Nowhere}
-use Rattle.reading.specs.declared.read.Read.{Read}
-use Rattle.reading.specs.declared.read.Read.the-variants as read
-use Rattle.settings.specs.declared.control.Settings.{Settings}
+use Rattle.reading.specs.declared.Read.{Read}
+use Rattle.reading.specs.declared.Read.the-variants as read
+use Rattle.settings.specs.declared.Settings.{Settings}
 use Rattle.ahead.specs.Ahead.{mostCalls}
 use Rattle.ahead.specs.declared.ProgramAt.{ProgramAt}
 use Rattle.taking.specs.Steps.{Task, taskOf, Step}

@@ -3,8 +3,8 @@
 use ahead::ProgramAt;
 use answers::Answer;
 use places::Found;
-use reading::read::Read;
-use settings::control::Settings;
+use reading::Read;
+use settings::Settings;
 ghost use mathlib.Core.Path.{_≡_};
 ghost use Prim.Native.Nat.{_≤_};
 ghost use lib.ListN.{length};
@@ -32,7 +32,7 @@ fn run_main(
     let Found::At(line) = found else {
         return Answer::Alarm(alarms::PROGRAM_MISSING, 0, 0);
     };
-    let o = runners::run::run_program(
+    let o = runners::run_program(
         tape,
         table,
         set,
@@ -70,7 +70,7 @@ fn run_read(
         Read::Alarm(alarm, place) => Answer::Alarm(alarm, place, 0),
         Read::Whole(first, end) => {
             let lines = &tape[..end];
-            let running = settings::control::with_points(set, false);
+            let running = settings::with_points(set, false);
             run_main(lines, table, running, places, count, first, buf)
         }
     }
@@ -89,10 +89,10 @@ pub fn interpret(
     ensures filled { λ _. ⌜ now (places .exit) ≡ placesOf (now (tape .entry)) (now (table .entry)) set (now (places .entry)) (length (now (buf .entry))) ⌝ }
     ensures records { λ _. ⌜ now (buf .exit) ≡ bufferOf (now (tape .entry)) (now (table .entry)) set (length (now (places .entry))) (now (buf .entry)) ⌝ }
 {
-    if settings::control::settings_wrong(table, set) {
+    if settings::settings_wrong(table, set) {
         return Answer::Alarm(alarms::BAD_SETTINGS, 0, 0);
     }
-    if tape.len() > reading::read::LONGEST_TAPE {
+    if tape.len() > reading::LONGEST_TAPE {
         return Answer::Alarm(alarms::TAPE_TOO_LONG, 0, 0);
     }
     if buf.len() < moves::HEADER_SIZE {

@@ -2,7 +2,7 @@
 // line that is read, or `ALARM n at p`. The file `stdin` holds them: a name, LF, the tape, and byte 30. `stdout` holds what 01 says of each.
 use libc::STDIN_FILENO;
 use libc::STDOUT_FILENO;
-use reading::read::Read;
+use reading::Read;
 ghost use Prim.Native.Nat.{_≤_};
 ghost use lib.ListN.{length};
 
@@ -65,11 +65,11 @@ fn print(name: &[u8], verb: &[u8], first: usize, joint: &[u8], second: usize) {
 
 // Reads a tape and writes what came of it.
 fn show(name: &[u8], tape: &[u8]) {
-    if tape.len() > reading::read::LONGEST_TAPE {
+    if tape.len() > reading::LONGEST_TAPE {
         print(name, b" ALARM ", wide(alarms::TAPE_TOO_LONG), b" at ", 0);
         return;
     }
-    let mut places = [0u64; reading::read::MOST_PLACES];
+    let mut places = [0u64; reading::MOST_PLACES];
     let told = scanning::read_tape(tape, false, &mut places);
     let read = told.read;
     match read {

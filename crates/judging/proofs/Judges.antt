@@ -16,8 +16,8 @@ use Rattle.judging.specs.Refusals.{badMark, badVersion, badLength, badRe
 use Rattle.lawful.specs.Right.{isRight, rightFrom}
 use Rattle.lawful.specs.Versions.{firstVersion, sizeIn, limitIn, startIn}
 use Rattle.judging.specs.Judging.{markDiffers, markWrong, lengthWrong, recordsEvery, spareZero, sparesZero, recordsWrong, judgedAs, judged, versionNamed}
-use Rattle.lawful.specs.declared.versions.Version.{Version}
-use Rattle.lawful.specs.declared.versions.Version.the-variants.{One, Two}
+use Rattle.lawful.specs.declared.Version.{Version}
+use Rattle.lawful.specs.declared.Version.the-variants.{One, Two}
 use Rattle.judging.specs.declared.Judged.the-variants.{Good, Refused}
 
 one-zero : _≡_ {A = ℕ} 1 0 → ⊥

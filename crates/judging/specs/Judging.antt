@@ -7,12 +7,12 @@ use Prim.Native.Nat.{ℕ, zero, suc, _+_}
 use lib.Dec.{ltb, eqb}
 use lib.ListN.{length, getD, drop}
 use Rattle.moves.specs.Form.{headerSize, version, mark, markAt, headerZeroAt, zerosAt}
-use Rattle.moves.specs.declared.record.Record.{Record}
+use Rattle.moves.specs.declared.Record.{Record}
 use Rattle.moves.specs.Reading.{recordIn, versionIn, countIn}
 use Rattle.lawful.specs.Right.{rightRow}
 use Rattle.lawful.specs.Versions.{firstVersion, sizeIn, limitIn, startIn}
-use Rattle.lawful.specs.declared.versions.Version.{Version}
-use Rattle.lawful.specs.declared.versions.Version.the-variants.{One, Two}
+use Rattle.lawful.specs.declared.Version.{Version}
+use Rattle.lawful.specs.declared.Version.the-variants.{One, Two}
 use Rattle.judging.specs.Refusals.{badMark, badVersion, badLength, badRecord}
 use Rattle.judging.specs.declared.Judged.{Judged}
 use Rattle.judging.specs.declared.Judged.the-variants as judging

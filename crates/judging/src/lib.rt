@@ -1,5 +1,5 @@
 // A list judged as a whole: its version and how many records it has, or why it is refused. (02: "It accepts exactly lists in the written form"; "the reader takes both".)
-use lawful::versions::Version;
+use lawful::Version;
 ghost use mathlib.Core.Path.{_≡_};
 ghost use mathlib.Core.Bool.{_&&_};
 ghost use Prim.Native.Nat.{_<_, _≤_};
@@ -45,7 +45,7 @@ pub fn version_named(list: &[u8]) -> Version
     requires { ⌜ headerSize ≤ length (now list) ⌝ }
     ensures { λ r. ⌜ r ≡ versionNamed (now (list .entry)) ⌝ }
 {
-    if fields::two_at(list, moves::AT_VERSION) == lawful::versions::FIRST_VERSION {
+    if fields::two_at(list, moves::AT_VERSION) == lawful::FIRST_VERSION {
         return Version::One;
     }
     Version::Two
@@ -56,10 +56,10 @@ fn length_wrong(list: &[u8], v: Version, count: usize) -> bool
     requires { ⌜ (headerSize ≤ length (now list)) × (count ≡ countIn (now list)) × (count < 65_536) ⌝ }
     ensures { λ r. ⌜ r ≡ lengthWrong v (now (list .entry)) ⌝ }
 {
-    if count > lawful::versions::record_limit(v) {
+    if count > lawful::record_limit(v) {
         return true;
     }
-    (list.len() != lawful::versions::record_start(v, count)) | (list[moves::AT_HEADER_ZERO] != 0)
+    (list.len() != lawful::record_start(v, count)) | (list[moves::AT_HEADER_ZERO] != 0)
 }
 
 // Whether the record at the front of a part is right where it stands, its spare bytes too. The block that it came from is not asked.
@@ -78,7 +78,7 @@ fn row_right(list: &[u8], v: Version, count: usize) -> bool
     requires { ⌜ startIn v count ≤ length (now list) ⌝ }
     ensures { λ r. ⌜ r ≡ (sparesZero (sizeIn v) count (drop headerSize (now (list .entry))) && rightRow (recordsEvery (sizeIn v) count (drop headerSize (now (list .entry))))) ⌝ }
 {
-    let size = lawful::versions::record_size(v);
+    let size = lawful::record_size(v);
     let mut due = false;
     let mut first = moves::HEADER_SIZE;
     let mut k = 0;
@@ -116,7 +116,7 @@ pub fn judge_list(list: &[u8]) -> Judged
         return Judged::Refused(crate::BAD_MARK);
     }
     let version = fields::two_at(list, moves::AT_VERSION);
-    if version == lawful::versions::FIRST_VERSION {
+    if version == lawful::FIRST_VERSION {
         return judge_as(list, Version::One);
     }
     if version == (moves::VERSION as usize) {

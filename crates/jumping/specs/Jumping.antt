@@ -12,7 +12,7 @@ use Rattle.numbers.specs.declared.Number.{Number}
 use Rattle.numbers.specs.declared.Number.the-variants.{Value, Bad}
 use Rattle.numbers.specs.Numbers.{numberOf}
 use Rattle.addresses.specs.declared.Word.{Word}
-use Rattle.block.specs.declared.words.Block.{Block}
+use Rattle.block.specs.declared.Block.{Block}
 use Rattle.block.specs.Words.{noWords, putWord}
 use Rattle.jumping.specs.declared.Jumping.{Jumping}
 use Rattle.jumping.specs.declared.Jumping.the-variants.{To, Other}

@@ -32,7 +32,7 @@ fn to_by(number: Number) -> Jumping
     ensures { λ r. ⌜ r ≡ toBy number ⌝ }
 {
     match number {
-        Number::Value(value, _) => Jumping::To(whole::signed::magnitude(value)),
+        Number::Value(value, _) => Jumping::To(whole::magnitude(value)),
         Number::Bad => Jumping::Other,
     }
 }

@@ -11,8 +11,8 @@ use lib.Signed.{leZ}
 use Rattle.whole.specs.Position.{tableLeast, tableGreatest, inTable}
 use Rattle.moves.specs.Form.{recordLimit, whats, AllFitting, AllListed}
 use Rattle.moves.specs.Kinds.{rapidKind, feedKind, speedKind, centreKind, isArc, isCentre, inTurn, flagG95, flagG96}
-use Rattle.moves.specs.declared.record.Record.{Record}
-use Rattle.moves.specs.declared.record.Listed.{Listed}
+use Rattle.moves.specs.declared.Record.{Record}
+use Rattle.moves.specs.declared.Listed.{Listed}
 use Rattle.lawful.specs.Versions.{firstRecordLimit}
 
 -- ---- "known kinds"

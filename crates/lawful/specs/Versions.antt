@@ -1,8 +1,8 @@
 -- The versions of a list that are read. 02, request 7: "the reader takes both, version 1 to 4,000 records and without a block."
 use Prim.Native.Nat.{ℕ, _+_, _*_}
 use Rattle.moves.specs.Form.{headerSize, recordSize, recordLimit, version}
-use Rattle.lawful.specs.declared.versions.Version.{Version}
-use Rattle.lawful.specs.declared.versions.Version.the-variants.{One, Two}
+use Rattle.lawful.specs.declared.Version.{Version}
+use Rattle.lawful.specs.declared.Version.the-variants.{One, Two}
 
 -- 01: "16-bit version 1", "16 bytes a record"; alarm 20 of 01: "records above 4,000"
 abbrev pub firstVersion : ℕ

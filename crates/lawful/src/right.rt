@@ -1,6 +1,6 @@
 // Which records a list may have: its kind is known, the flags are those of its kind, and the position is within its range.
 // (02: "known kinds, 10 after each 8 or 9 and nowhere else, .. its kind's flags, any value and positions within the table's range (a centre's within three times it)".)
-use moves::record::Record;
+use moves::Record;
 use whole::position::Position;
 ghost use mathlib.Core.Path.{_≡_};
 ghost use mathlib.Core.Bool.{_&&_};

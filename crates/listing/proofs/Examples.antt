@@ -5,13 +5,13 @@ use mathlib.Core.Bool.{true}
 use mathlib.Core.List.{List, [], _∷_, _++_}
 use Prim.Native.Nat.{ℕ}
 use lib.IntN.{ℤ, pos}
-use Rattle.whole.specs.Bytes.{signedBytes, signedOf}
+use Rattle.octets.specs.Bytes.{signedBytes, signedOf}
 use Rattle.whole.specs.Signed.{minus}
 use Rattle.moves.specs.Form.{headerBytes, whatBytes, originBytes, recordBytes, rowBytes, listBytes, listed, stamped}
 use Rattle.moves.specs.Kinds.{rapid, feed, miscellaneous}
 use Rattle.moves.specs.Reading.{recordIn, originIn, rowIn}
-use Rattle.moves.specs.declared.record.Record.{Record}
-use Rattle.moves.specs.declared.record.Origin.{Origin}
+use Rattle.moves.specs.declared.Record.{Record}
+use Rattle.moves.specs.declared.Origin.{Origin}
 use Rattle.letters.specs.Letters.{lf}
 use Rattle.letters.specs.Text.{bytes}
 use Rattle.answers.specs.declared.Answer.the-variants.{Complete}

@@ -7,7 +7,7 @@ use lib.ListN.{length, length-append}
 use mir.Syntax.{w32}
 use mir.Val.{SFits}
 use Rattle.moves.specs.Form.{version, Fitting, FittingOrigin}
-use Rattle.moves.specs.declared.record.Listed.{Listed}
+use Rattle.moves.specs.declared.Listed.{Listed}
 use Rattle.decimal.proofs.Digits.{few-decimal, few-signed}
 use Rattle.listing.specs.Listing.{headLine, recordLine, alarmLine, longestHead, longestRecordLine, longestAlarm}
 

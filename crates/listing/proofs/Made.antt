@@ -6,10 +6,10 @@ use Prim.Native.Nat.{ℕ, _+_, _*_, _-_, _^_, _<_, _≤_}
 use native.Mathlib.Omega.{arith}
 use borrow.Author.Tests.{le-leb, lt-leb}
 use lib.ListN.{length, drop}
-use Rattle.whole.specs.Bytes.{laid}
+use Rattle.octets.specs.Bytes.{laid}
 use Rattle.moves.specs.Form.{version, recordStart, roomOf, Fitting, FittingOrigin}
 use Rattle.moves.specs.Reading.{listedIn, rowAt}
-use Rattle.moves.specs.declared.record.Listed.{Listed}
+use Rattle.moves.specs.declared.Listed.{Listed}
 use Rattle.letters.specs.Letters.{lf, space}
 use Rattle.letters.specs.Text.{bytes}
 use Rattle.answers.specs.declared.Answer.{Answer}

@@ -8,7 +8,7 @@ use lib.Dec.{leb}
 use lib.ListN.{length}
 use Rattle.moves.specs.Form.{version, roomOf}
 use Rattle.moves.specs.Reading.{rowAt}
-use Rattle.moves.specs.declared.record.Listed.{Listed}
+use Rattle.moves.specs.declared.Listed.{Listed}
 use Rattle.letters.specs.Letters.{lf, space}
 use Rattle.letters.specs.Text.{bytes}
 use Rattle.answers.specs.declared.Answer.{Answer}

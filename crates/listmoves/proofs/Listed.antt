@@ -8,10 +8,10 @@ use native.Mathlib.Omega.{arith}
 use lib.IntN.{ℤ}
 use lib.ListN.{length, length-replicate}
 use borrow.Author.Tests.{le-leb}
-use Rattle.whole.specs.Bytes.{laid}
+use Rattle.octets.specs.Bytes.{laid}
 use Rattle.moves.specs.Form.{recordLimit, recordStart, roomOf}
-use Rattle.settings.specs.Listmoves.{listmoves, noOffsets}
-use Rattle.settings.specs.declared.control.Settings.{Settings}
+use Rattle.panel.specs.Listmoves.{listmoves, noOffsets}
+use Rattle.settings.specs.declared.Settings.{Settings}
 use Rattle.answers.specs.Answers.{countOf}
 use Rattle.reading.specs.Filling.{mostPlaces}
 use Rattle.interpreter.specs.Answers.{answerOf, bufferOf}

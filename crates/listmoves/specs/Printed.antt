@@ -6,7 +6,7 @@ use lib.ListN.{length, replicate}
 use Rattle.moves.specs.Form.{recordLimit, recordStart}
 use Rattle.reading.specs.Filling.{mostPlaces}
 use Rattle.interpreter.specs.Answers.{answerOf, bufferOf}
-use Rattle.settings.specs.Listmoves.{listmoves, noOffsets}
+use Rattle.panel.specs.Listmoves.{listmoves, noOffsets}
 use Rattle.listing.specs.Listing.{longestHead, longestRecordLine, listingOf}
 
 -- the buffer that is lent: the header and as many records as a list may have, 64,008 bytes

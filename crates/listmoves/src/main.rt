@@ -5,7 +5,7 @@ use libc::STDOUT_FILENO;
 ghost use mathlib.Core.Path.{_≡_};
 ghost use Prim.Native.Nat.{_≤_};
 ghost use lib.ListN.{length};
-ghost use Rattle.whole.specs.Bytes.{laid};
+ghost use Rattle.octets.specs.Bytes.{laid};
 ghost use Rattle.listmoves.specs.Printed.{freshBuffer, printed, textSize};
 
 // The buffer that is lent: the header and as many records as a list may have.
@@ -37,10 +37,10 @@ fn list_moves(tape: &[u8], out: &mut [u8]) -> usize
     ensures text { λ _. ⌜ now (out .exit) ≡ laid (now (out .entry)) 0 (printed (now (tape .entry))) ⌝ }
     ensures within { λ r. ⌜ r ≤ length (now (out .entry)) ⌝ }
 {
-    let table = settings::usual::no_offsets();
+    let table = panel::no_offsets();
     let mut buf = fresh_buffer();
-    let set = settings::usual::of_listmoves();
-    let mut places = [UNUSED; reading::read::MOST_PLACES];
+    let set = panel::of_listmoves();
+    let mut places = [UNUSED; reading::MOST_PLACES];
     let answer = interpreter::interpret::interpret(tape, &table, set, &mut places, &mut buf);
     listing::lines::put_listing(answer, &buf, out)
 }

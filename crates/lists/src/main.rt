@@ -2,10 +2,10 @@
 // the block that it came from, or `REFUSED` and why; and at the end what the reader's door answers where one number less than a record has is lent.
 // The file `stdin` holds them, a line for each: a name, a space, the number of the record, a space, and the bytes in hexadecimal digits; `*` behind them repeats the last record until there are
 // as many as the header counts. `stdout` holds what 02 says of each, by a separate reading of it.
-use lawful::versions::Version;
+use lawful::Version;
 use libc::STDIN_FILENO;
 use libc::STDOUT_FILENO;
-use moves::record::Record;
+use moves::Record;
 use readback::read::ReadBack;
 use readback::read::Source;
 ghost use Prim.Native.Nat.{_<_, _≤_};
@@ -57,7 +57,7 @@ fn decode(text: &[u8], list: &mut [u8; LONGEST]) -> usize
 
 // The version that a header names, for the size of the records that are repeated.
 fn version_of(list: &[u8; LONGEST]) -> Version {
-    if wide(list[moves::AT_VERSION]) == lawful::versions::FIRST_VERSION {
+    if wide(list[moves::AT_VERSION]) == lawful::FIRST_VERSION {
         return Version::One;
     }
     Version::Two
@@ -70,8 +70,8 @@ fn repeat(list: &mut [u8; LONGEST], from: usize) -> usize
 {
     let count = wide(list[moves::AT_COUNT]) + 256 * wide(list[moves::AT_COUNT + 1]);
     let version = version_of(list);
-    let end = lawful::versions::record_start(version, count);
-    let size = lawful::versions::record_size(version);
+    let end = lawful::record_start(version, count);
+    let size = lawful::record_size(version);
     let mut n = from;
     while n < end {
         if n >= LONGEST {
@@ -104,7 +104,7 @@ fn print_signed(v: i32) {
     if v < 0 {
         io::write_all(STDOUT_FILENO, b"-");
     }
-    let size = whole::signed::magnitude(v);
+    let size = whole::magnitude(v);
     io::print_decimal(STDOUT_FILENO, size as u64);
 }
 

@@ -9,28 +9,28 @@ use lib.Dec.{T, eqb}
 use lib.IntN.{ℤ}
 use lib.ListN.{length}
 use borrow.Author.Tests.{eq-eqb, ne-eqb, eqb-true, eqb-false}
-use Rattle.whole.specs.Bytes.{laid}
+use Rattle.octets.specs.Bytes.{laid}
 use Rattle.whole.specs.Position.{inTable}
 use Rattle.whole.proofs.Integers.{whole, lt-false}
-use Rattle.whole.proofs.Laying.{laid-nil}
+use Rattle.octets.proofs.Laying.{laid-nil}
 use Rattle.whole.proofs.Positions.{in-range, in-table}
 use Rattle.moves.specs.Form.{recordStart, rowFrom}
-use Rattle.moves.specs.declared.record.Origin.{Origin}
+use Rattle.moves.specs.declared.Origin.{Origin}
 use Rattle.moves.proofs.Rows.{from-none}
-use Rattle.block.specs.declared.words.Block.{Block}
+use Rattle.block.specs.declared.Block.{Block}
 use Rattle.settings.specs.Known.{SpanIn, InRange}
 use Rattle.settings.specs.Limits.{outside, outsideSpan}
-use Rattle.settings.specs.declared.control.Settings.{Settings}
-use Rattle.settings.specs.declared.limits.Span.{Span}
+use Rattle.settings.specs.declared.Settings.{Settings}
+use Rattle.settings.specs.declared.Span.{Span}
 use Rattle.straying.proofs.Limits.{end-inside}
 use Rattle.axes.proofs.Reaching.{inside}
 use Rattle.state.specs.Modal.{settled}
 use Rattle.state.specs.Known.{Sound}
-use Rattle.state.proofs.Ranges.{settled-sound}
-use Rattle.state.specs.declared.modal.State.{State}
+use Rattle.targets.proofs.Ranges.{settled-sound}
+use Rattle.state.specs.declared.State.{State}
 use Rattle.asking.specs.Judge.{asksOf}
-use Rattle.deeds.specs.declared.deed.Deed.{Deed}
-use Rattle.deeds.specs.declared.deed.Deed.the-variants as deed
+use Rattle.deeds.specs.declared.Deed.{Deed}
+use Rattle.deeds.specs.declared.Deed.the-variants as deed
 use Rattle.writing.specs.Writes.{moved, done, writes}
 use Rattle.verdicts.specs.Verdicts.{deedIn, asksIn, alarmIn, goingOf}
 use Rattle.verdicts.specs.declared.Going.{Going}

@@ -9,24 +9,24 @@ use lib.IntN.{ℤ, pos}
 use lib.ListN.{length, set, replicate}
 use borrow.Author.Tests.{eq-eqb}
 use Rattle.codes.specs.Codes.{gCode, mCode}
-use Rattle.codes.specs.declared.meaning.Motion.the-variants as motion
+use Rattle.codes.specs.declared.Motion.the-variants as motion
 use Rattle.acts.specs.Acting.{keep, motionBy, shiftBy, cuttingBy, revolutionBy}
-use Rattle.acts.specs.declared.acting.Kept.{Kept}
-use Rattle.acts.specs.declared.acting.Kept.the-variants.{Nothing, Of}
-use Rattle.moves.specs.declared.record.Record.{Record}
+use Rattle.acts.specs.declared.Kept.{Kept}
+use Rattle.acts.specs.declared.Kept.the-variants.{Nothing, Of}
+use Rattle.moves.specs.declared.Record.{Record}
 use Rattle.addresses.specs.Words.{lacksPoint}
 use Rattle.block.specs.Slots.{slots, steeringSlot, lSlot, has, gIn}
 use Rattle.block.specs.Words.{slotOf, noWords, isEnd, putWord}
-use Rattle.block.specs.declared.words.Block.{Block}
+use Rattle.block.specs.declared.Block.{Block}
 use Rattle.jumping.specs.Jumping.{jumpWords}
-use Rattle.settings.specs.declared.control.Settings.{Settings}
-use Rattle.settings.specs.declared.limits.Limits.{Limits}
+use Rattle.settings.specs.declared.Settings.{Settings}
+use Rattle.settings.specs.declared.Limits.{Limits}
 use Rattle.state.specs.Modal.{blockMotion, correctionAfter, feedAfter, dueAfter, settled}
 use Rattle.state.specs.Known.{Sound}
-use Rattle.state.specs.declared.modal.State.{State}
+use Rattle.state.specs.declared.State.{State}
 use Rattle.deeds.specs.Deed.{hasPath, hasCentre, straightIf, roundIf, moveOf, deedOf}
-use Rattle.deeds.specs.declared.deed.Deed.{Deed}
-use Rattle.deeds.specs.declared.deed.Deed.the-variants as deed
+use Rattle.deeds.specs.declared.Deed.{Deed}
+use Rattle.deeds.specs.declared.Deed.the-variants as deed
 use Rattle.scaling.specs.declared.Sending.{Sending}
 use Rattle.asking.specs.Judge.{asksOf, alarmOf, doing}
 use Rattle.writing.specs.Writes.{oneIf, speedAndTool, spindleAndCoolant, done, stops, stopping, writes, otherCount}

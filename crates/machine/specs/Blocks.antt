@@ -5,11 +5,11 @@ use Prim.Native.Nat.{ℕ, _+_, _-_}
 use lib.Dec.{eqb}
 use lib.IntN.{ℤ}
 use lib.ListN.{length}
-use Rattle.moves.specs.declared.record.Record.{Record}
-use Rattle.block.specs.declared.words.Block.{Block}
-use Rattle.settings.specs.declared.control.Settings.{Settings}
+use Rattle.moves.specs.declared.Record.{Record}
+use Rattle.block.specs.declared.Block.{Block}
+use Rattle.settings.specs.declared.Settings.{Settings}
 use Rattle.state.specs.Modal.{settled}
-use Rattle.state.specs.declared.modal.State.{State}
+use Rattle.state.specs.declared.State.{State}
 use Rattle.writing.specs.Writes.{done, writes}
 use Rattle.verdicts.specs.Verdicts.{deedIn, alarmIn}
 use Rattle.machine.specs.declared.BlockOutcome.{BlockOutcome}

@@ -1,13 +1,13 @@
 // A block as a whole: it is judged, and where nothing refuses it, its records are written. (01: "Running a block"; "A refused block writes nothing".)
-use block::words::Block;
-use moves::record::Origin;
-use settings::control::Settings;
-use state::modal::State;
+use block::Block;
+use moves::Origin;
+use settings::Settings;
+use state::State;
 use verdicts::Verdict;
 ghost use mathlib.Core.Path.{_≡_};
 ghost use Prim.Native.Nat.{_-_, _≤_};
 ghost use lib.ListN.{length};
-ghost use Rattle.whole.specs.Bytes.{laid};
+ghost use Rattle.octets.specs.Bytes.{laid};
 ghost use Rattle.moves.specs.Form.{headerSize, recordStart, roomOf, rowFrom};
 ghost use Rattle.block.specs.Worded.{Worded};
 ghost use Rattle.state.specs.Known.{Sound};

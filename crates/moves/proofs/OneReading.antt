@@ -6,11 +6,11 @@ use Prim.Native.Nat.{ℕ, suc, _+_, _*_, _/_, _%_}
 use native.Mathlib.Omega.{arith}
 use lib.ListN.{length, take, drop, length-append}
 use lib.Seq.{take-at, drop-at}
-use Rattle.whole.specs.Bytes.{littleEndian, valueOf, signedBytes, signedOf}
-use Rattle.whole.proofs.LittleEndian.{length-little, length-signed, read-back, signed-read-back}
-use Rattle.moves.specs.declared.record.Record.{Record}
-use Rattle.moves.specs.declared.record.Origin.{Origin}
-use Rattle.moves.specs.declared.record.Listed.{Listed}
+use Rattle.octets.specs.Bytes.{littleEndian, valueOf, signedBytes, signedOf}
+use Rattle.octets.proofs.LittleEndian.{length-little, length-signed, read-back, signed-read-back}
+use Rattle.moves.specs.declared.Record.{Record}
+use Rattle.moves.specs.declared.Origin.{Origin}
+use Rattle.moves.specs.declared.Listed.{Listed}
 use Rattle.moves.specs.Kinds.{flagged}
 use Rattle.moves.specs.Form.{headerSize, recordSize, recordStart, headerBytes, whatBytes, originBytes, recordBytes, rowBytes, listBytes, listed, stamped, whats, Fitting, FittingOrigin, AllListed, LawfulList}
 use Rattle.moves.specs.Reading.{numberAt, recordIn, originIn, listedIn, rowIn, rowAt, listIn}

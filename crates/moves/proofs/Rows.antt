@@ -5,11 +5,11 @@ use mathlib.Core.List.{List, [], _∷_, _++_, append-nil}
 use Prim.Native.Nat.{ℕ, _+_, _*_, _≤_}
 use native.Mathlib.Omega.{arith}
 use lib.ListN.{length}
-use Rattle.whole.specs.Bytes.{laid}
-use Rattle.whole.proofs.Laying.{laid-on}
-use Rattle.moves.specs.declared.record.Record.{Record}
-use Rattle.moves.specs.declared.record.Origin.{Origin}
-use Rattle.moves.specs.declared.record.Listed.{Listed}
+use Rattle.octets.specs.Bytes.{laid}
+use Rattle.octets.proofs.Laying.{laid-on}
+use Rattle.moves.specs.declared.Record.{Record}
+use Rattle.moves.specs.declared.Origin.{Origin}
+use Rattle.moves.specs.declared.Listed.{Listed}
 use Rattle.moves.specs.Form.{recordSize, recordStart, recordBytes, rowBytes, listed, stamped, rowFrom}
 use Rattle.moves.proofs.OneReading.{length-row, row-append, length-stamped, stamped-append}
 

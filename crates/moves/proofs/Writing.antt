@@ -7,11 +7,11 @@ use native.Mathlib.Omega.{arith}
 use lib.ListN.{length, getD, length-append}
 use mir.Syntax.{w32}
 use mir.Val.{SFits}
-use Rattle.whole.specs.Bytes.{littleEndian, valueOf, wordOf, signedBytes, laid}
-use Rattle.whole.proofs.LittleEndian.{length-little, length-signed, joined-bytes, write-back, word-fits}
-use Rattle.whole.proofs.Laying.{laid-on}
-use Rattle.moves.specs.declared.record.Record.{Record}
-use Rattle.moves.specs.declared.record.Origin.{Origin}
+use Rattle.octets.specs.Bytes.{littleEndian, valueOf, wordOf, signedBytes, laid}
+use Rattle.octets.proofs.LittleEndian.{length-little, length-signed, joined-bytes, write-back, word-fits}
+use Rattle.octets.proofs.Laying.{laid-on}
+use Rattle.moves.specs.declared.Record.{Record}
+use Rattle.moves.specs.declared.Origin.{Origin}
 use Rattle.moves.specs.Form.{recordSize, version, programAt, headerBytes, whatBytes, originBytes, recordBytes, listed}
 
 -- bytes and more behind them

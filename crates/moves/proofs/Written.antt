@@ -5,10 +5,10 @@ use mathlib.Core.List.{List, [], _∷_, _++_, append-assoc, append-nil}
 use Prim.Native.Nat.{ℕ, _+_, _*_, _≤_, _<_}
 use native.Mathlib.Omega.{arith}
 use lib.ListN.{length, length-append}
-use Rattle.whole.specs.Bytes.{laid}
-use Rattle.whole.proofs.Laying.{laid-nil, laid-on, length-laid}
-use Rattle.moves.specs.declared.record.Record.{Record}
-use Rattle.moves.specs.declared.record.Origin.{Origin}
+use Rattle.octets.specs.Bytes.{laid}
+use Rattle.octets.proofs.Laying.{laid-nil, laid-on, length-laid}
+use Rattle.moves.specs.declared.Record.{Record}
+use Rattle.moves.specs.declared.Origin.{Origin}
 use Rattle.moves.specs.Form.{recordSize, recordBytes, listed, rowFrom}
 use Rattle.moves.specs.Written.{Written}
 use Rattle.moves.proofs.Rows.{length-from, from-none, from-one, from-append}

@@ -4,7 +4,7 @@ use mathlib.Core.Bool.{Bool, cond, not, _||_}
 use Prim.Native.Nat.{ℕ}
 use lib.Dec.{eqb}
 use lib.IntN.{ℤ}
-use Rattle.moves.specs.declared.record.Record.{Record}
+use Rattle.moves.specs.declared.Record.{Record}
 
 -- ---- their numbers, and 02's: "kinds 8 and 9 are as kind 2 with the end point, and a following record, kind 10, carries the centre" (request 4)
 abbrev pub rapidKind : ℕ

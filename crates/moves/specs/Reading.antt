@@ -3,10 +3,10 @@
 use mathlib.Core.List.{List, [], _∷_}
 use Prim.Native.Nat.{ℕ, zero, suc}
 use lib.ListN.{getD, take, drop}
-use Rattle.whole.specs.Bytes.{valueOf, signedOf}
-use Rattle.moves.specs.declared.record.Record.{Record}
-use Rattle.moves.specs.declared.record.Origin.{Origin}
-use Rattle.moves.specs.declared.record.Listed.{Listed}
+use Rattle.octets.specs.Bytes.{valueOf, signedOf}
+use Rattle.moves.specs.declared.Record.{Record}
+use Rattle.moves.specs.declared.Origin.{Origin}
+use Rattle.moves.specs.declared.Listed.{Listed}
 use Rattle.moves.specs.Form.{headerSize, recordSize, versionAt, countAt, kindAt, flagsAt, xAt, zAt, valueAt, programAt, blockAt, recordStart, listed, whats}
 
 -- the number of the n bytes from place i on

@@ -4,10 +4,10 @@ ghost use mathlib.Core.Path.{_≡_};
 ghost use mathlib.Core.List.{[], _∷_};
 ghost use Prim.Native.Nat.{_*_, _≤_};
 ghost use lib.ListN.{length};
-ghost use Rattle.whole.specs.Bytes.{laid};
+ghost use Rattle.octets.specs.Bytes.{laid};
 ghost use Rattle.moves.specs.Form.{headerSize, recordSize, roomOf, listed, recordBytes, rowFrom, headerBytes};
-use crate::record::Origin;
-use crate::record::Record;
+use crate::Origin;
+use crate::Record;
 
 // How many records a buffer of so many bytes has room for, within the limit.
 pub fn room(bytes: usize) -> usize
@@ -29,15 +29,15 @@ pub fn put_record(part: &mut [u8], what: Record, origin: Origin)
     requires { ⌜ recordSize ≤ length (now part) ⌝ }
     ensures { λ _. ⌜ now (part .exit) ≡ laid (now (part .entry)) 0 (recordBytes (listed origin what)) ⌝ }
 {
-    let kind = whole::bytes::u32_of_bytes([what.kind, what.flags, 0, 0]);
-    let x = whole::bytes::word_of(what.x);
-    let z = whole::bytes::word_of(what.z);
-    let program = whole::bytes::bytes_of_u16(origin.program);
-    let block = whole::bytes::bytes_of_u16(origin.block);
+    let kind = octets::u32_of_bytes([what.kind, what.flags, 0, 0]);
+    let x = octets::word_of(what.x);
+    let z = octets::word_of(what.z);
+    let program = octets::bytes_of_u16(origin.program);
+    let block = octets::bytes_of_u16(origin.block);
     // X stands behind the kind and the flags, and the value behind Z.
-    whole::bytes::put_eight(part, crate::AT_KIND, whole::bytes::joined(kind, x));
-    whole::bytes::put_eight(part, crate::AT_Z, whole::bytes::joined(z, what.value));
-    whole::bytes::put_four(
+    octets::put_eight(part, crate::AT_KIND, octets::joined(kind, x));
+    octets::put_eight(part, crate::AT_Z, octets::joined(z, what.value));
+    octets::put_four(
         part,
         crate::AT_PROGRAM,
         [program[0], program[1], block[0], block[1]],
@@ -58,11 +58,11 @@ pub fn put_header(buf: &mut [u8], count: u16)
     requires { ⌜ headerSize ≤ length (now buf) ⌝ }
     ensures { λ _. ⌜ now (buf .exit) ≡ laid (now (buf .entry)) 0 (headerBytes count) ⌝ }
 {
-    let version = whole::bytes::bytes_of_u16(crate::VERSION);
-    let records = whole::bytes::bytes_of_u16(count);
+    let version = octets::bytes_of_u16(crate::VERSION);
+    let records = octets::bytes_of_u16(count);
     let mark = crate::MARK;
-    whole::bytes::put_four(buf, crate::AT_MARK, [mark[0], mark[1], mark[2], version[0]]);
-    whole::bytes::put_four(
+    octets::put_four(buf, crate::AT_MARK, [mark[0], mark[1], mark[2], version[0]]);
+    octets::put_four(
         buf,
         crate::AT_VERSION + 1,
         [version[1], records[0], records[1], 0],

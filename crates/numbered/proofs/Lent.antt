@@ -7,7 +7,7 @@ use native.Mathlib.Omega.{arith}
 use lib.IntN.{ℤ, pos}
 use lib.ListN.{length, getD, drop, set}
 use borrow.Author.Tests.{lt-ltb, le-ltb}
-use Rattle.moves.specs.declared.record.Record.{Record}
+use Rattle.moves.specs.declared.Record.{Record}
 use Rattle.numbered.specs.Numbers.{numbersCount, numbersOf, tooFewNumbers, answerOf, numbersAfter}
 use Rattle.readback.specs.declared.read.Source.{Source}
 use Rattle.readback.specs.declared.read.ReadBack.{ReadBack}

@@ -1,6 +1,6 @@
 // A record as seven numbers, as a caller in C gets it: kind, flags, X, Z, value, program and block. A list of version 1 has no program and block, and both are -1.
 use judging::Judged;
-use moves::record::Record;
+use moves::Record;
 use readback::read::ReadBack;
 use readback::read::Source;
 ghost use mathlib.Core.Path.{_≡_};

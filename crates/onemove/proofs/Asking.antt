@@ -8,10 +8,10 @@ use native.Mathlib.Omega.{arith}
 use lib.IntN.{ℤ}
 use lib.ListN.{length, take, drop, length-drop}
 use lib.Seq.{take-all, length-take-le}
-use Rattle.whole.specs.Bytes.{laid}
+use Rattle.octets.specs.Bytes.{laid}
 use Rattle.moves.specs.Form.{recordSize, recordBytes}
-use Rattle.moves.specs.declared.record.Listed.{Listed}
-use Rattle.settings.specs.Row.{unfit, settingsOf}
+use Rattle.moves.specs.declared.Listed.{Listed}
+use Rattle.panel.specs.Row.{unfit, settingsOf}
 use Rattle.settings.specs.Wrong.{settingsWrong}
 use Rattle.answers.specs.declared.Answer.{Answer}
 use Rattle.ahead.specs.Ahead.{FoundAt}
@@ -19,8 +19,8 @@ use Rattle.ahead.specs.declared.ProgramAt.{ProgramAt}
 use Rattle.ahead.proofs.Places.{FoundIn, program-on}
 use Rattle.taking.specs.Steps.{Task}
 use Rattle.taking.specs.Hands.{inHand}
-use Rattle.taking.specs.declared.step.Hand.{Hand}
-use Rattle.taking.specs.declared.step.Hand.the-variants.{Nothing}
+use Rattle.taking.specs.declared.Hand.{Hand}
+use Rattle.taking.specs.declared.Hand.the-variants.{Nothing}
 use Rattle.resuming.specs.Handed.{Made, Left, Takes}
 use Rattle.resuming.specs.declared.Handed.the-variants as handed
 use Rattle.resuming.specs.Engines.{ahead, joined, remaining}
@@ -35,12 +35,12 @@ use Rattle.holding.specs.Held.{Held}
 use Rattle.stepping.specs.Meets.{TurnMeets}
 use Rattle.stepping.specs.declared.Turned.{Turned}
 use Rattle.inhand.specs.State.{stateWords, handIn, runIn, Given}
-use Rattle.onemove.specs.declared.Told.{Told}
-use Rattle.onemove.specs.declared.Told.the-variants as told
+use Rattle.packing.specs.declared.Told.{Told}
+use Rattle.packing.specs.declared.Told.the-variants as told
 use Rattle.runwords.specs.Taken.{goingOf, phaseOf as wordPhase}
 use Rattle.inhand.specs.State.{isEmptyIn, goingIn, GiveMeets}
 use Rattle.telling.proofs.Tells.{never}
-use Rattle.settings.specs.declared.control.Settings.{Settings}
+use Rattle.settings.specs.declared.Settings.{Settings}
 use Rattle.onemove.specs.OneMove.{running, Lent, Stood, Holds, Lawful, Touches, AskMeets, NextMeets, CanGoOn, FirstMeets, Gives}
 
 -- ---- what is left, with records in hand

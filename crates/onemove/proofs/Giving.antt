@@ -4,20 +4,20 @@ use mathlib.Core.Path.{_≡_, refl, sym, ap, subst, _∙_}
 use mathlib.Core.List.{List, _∷_}
 use Prim.Native.Nat.{ℕ}
 use lib.ListN.{length}
-use Rattle.whole.specs.Bytes.{laid}
+use Rattle.octets.specs.Bytes.{laid}
 use Rattle.moves.specs.Form.{stamped, recordBytes}
-use Rattle.moves.specs.declared.record.Origin.{Origin}
-use Rattle.moves.specs.declared.record.Listed.{Listed}
+use Rattle.moves.specs.declared.Origin.{Origin}
+use Rattle.moves.specs.declared.Listed.{Listed}
 use Rattle.stages.specs.Cursor.{over, Sound}
-use Rattle.stages.specs.declared.cursor.Stage.the-variants.{Speed, Tool, Spindle, Coolant, Deed, Centre, Stop, Over}
-use Rattle.stages.specs.declared.cursor.Due.{Due}
-use Rattle.stages.specs.declared.cursor.Due.the-variants.{Turning, Threading, Grooving, Drilling, Single}
-use Rattle.stages.specs.declared.cursor.Plan.{Plan}
-use Rattle.stages.specs.declared.cursor.Cursor.{Cursor}
+use Rattle.stages.specs.declared.Stage.the-variants.{Speed, Tool, Spindle, Coolant, Deed, Centre, Stop, Over}
+use Rattle.stages.specs.declared.Due.{Due}
+use Rattle.stages.specs.declared.Due.the-variants.{Turning, Threading, Grooving, Drilling, Single}
+use Rattle.stages.specs.declared.Plan.{Plan}
+use Rattle.stages.specs.declared.Cursor.{Cursor}
 use Rattle.resumable.specs.Kept.{kept, withDeed, Fits}
 use Rattle.resumable.proofs.Kept.{same-rest, kept-fits, own, whole-deed}
-use Rattle.taking.specs.declared.step.Hand.{Hand}
-use Rattle.taking.specs.declared.step.Hand.the-variants.{Nothing, Block}
+use Rattle.taking.specs.declared.Hand.{Hand}
+use Rattle.taking.specs.declared.Hand.the-variants.{Nothing, Block}
 use Rattle.taking.specs.Hands.{inHand}
 use Rattle.holding.specs.Held.{Held}
 use Rattle.inhand.specs.State.{stateWords, handIn, runIn, handKept, PutMeets}
@@ -26,7 +26,7 @@ use Rattle.paused.specs.declared.Phase.{Phase}
 use Rattle.paused.specs.declared.Phase.the-variants as phase
 use Rattle.stepping.specs.Meets.{Stands}
 use Rattle.stepping.specs.declared.Turned.{Turned}
-use Rattle.onemove.specs.declared.Told.the-variants as told
+use Rattle.packing.specs.declared.Told.the-variants as told
 use Rattle.onemove.specs.OneMove.{OneGiven, FirstMeets}
 
 -- a plan with what is kept of its deed is as sound

@@ -8,11 +8,11 @@ use native.Mathlib.Omega.{arith}
 use lib.IntN.{ℤ}
 use lib.ListN.{length, take}
 use Rattle.alarms.specs.Numbers.{badSettings}
-use Rattle.settings.specs.Row.{unfit, settingsOf}
-use Rattle.settings.specs.declared.control.Settings.{Settings}
+use Rattle.panel.specs.Row.{unfit, settingsOf}
+use Rattle.settings.specs.declared.Settings.{Settings}
 use Rattle.interpreter.specs.Answers.{refused, placesOf}
-use Rattle.taking.specs.declared.step.Hand.{Hand}
-use Rattle.taking.specs.declared.step.Hand.the-variants.{Nothing}
+use Rattle.taking.specs.declared.Hand.{Hand}
+use Rattle.taking.specs.declared.Hand.the-variants.{Nothing}
 use Rattle.resuming.specs.Handed.{Made, leftOf, roomy}
 use Rattle.paused.specs.Kept.{Fitting}
 use Rattle.paused.specs.declared.Phase.{Phase}

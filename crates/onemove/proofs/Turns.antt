@@ -7,7 +7,7 @@ use lib.IntN.{ℤ}
 use Rattle.resuming.specs.Handed.{Left}
 use Rattle.resuming.specs.Handed as left
 use Rattle.resuming.proofs.Answers.{first, others}
-use Rattle.onemove.specs.declared.Told.{Told}
+use Rattle.packing.specs.declared.Told.{Told}
 use Rattle.onemove.specs.OneMove.{Holds, Hands, Lawful, InTurn}
 
 module _ (tape : List ℕ) (table numbers : List ℤ) (places : List ℕ) where

@@ -6,20 +6,20 @@ use mathlib.Core.List.{List, [], _∷_}
 use Prim.Native.Nat.{ℕ, suc, _≤_, _<_}
 use lib.IntN.{ℤ}
 use lib.ListN.{length, take}
-use Rattle.whole.specs.Bytes.{laid}
+use Rattle.octets.specs.Bytes.{laid}
 use Rattle.alarms.specs.Numbers.{badSettings}
 use Rattle.moves.specs.Form.{recordSize, recordBytes}
-use Rattle.moves.specs.declared.record.Listed.{Listed}
-use Rattle.settings.specs.Row.{unfit, settingsOf}
+use Rattle.moves.specs.declared.Listed.{Listed}
+use Rattle.panel.specs.Row.{unfit, settingsOf}
 use Rattle.settings.specs.Points.{withPoints}
-use Rattle.settings.specs.declared.control.Settings.{Settings}
+use Rattle.settings.specs.declared.Settings.{Settings}
 use Rattle.state.specs.Known.{Sound}
 use Rattle.interpreter.specs.Answers.{Result, refused, interpretation, placesOf}
 use Rattle.resuming.specs.declared.Handed.{Handed}
 use Rattle.resuming.specs.declared.Handed.the-variants as handed
 use Rattle.resuming.specs.Handed.{Left, leftOf, Takes, roomy}
-use Rattle.taking.specs.declared.step.Hand.{Hand}
-use Rattle.taking.specs.declared.step.Hand.the-variants.{Nothing}
+use Rattle.taking.specs.declared.Hand.{Hand}
+use Rattle.taking.specs.declared.Hand.the-variants.{Nothing}
 use Rattle.taking.specs.Hands.{inHand}
 use Rattle.paused.specs.Kept.{Fitting, Kept}
 use Rattle.paused.specs.declared.Phase.{Phase}
@@ -30,8 +30,8 @@ use Rattle.holding.specs.Held.{Held}
 use Rattle.stepping.specs.declared.Turned.{Turned}
 use Rattle.starting.specs.Starts.{Ready}
 use Rattle.inhand.specs.State.{stateWords, handIn, runIn}
-use Rattle.onemove.specs.declared.Told.{Told}
-use Rattle.onemove.specs.declared.Told.the-variants as told
+use Rattle.packing.specs.declared.Told.{Told}
+use Rattle.packing.specs.declared.Told.the-variants as told
 
 -- ---- WHAT IS WANTED: the list engine's records and answer at the door, with a buffer of 64,008 bytes and a table of places of so many entries
 unfoldable pub resultAt : List ℕ → List ℤ → List ℤ → ℕ → Result

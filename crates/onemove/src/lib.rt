@@ -3,32 +3,26 @@
 // While a block has records, an ask hands out the next of them (`inhand`); else blocks are done, until one has a record or the run is over (`stepping`). Words from elsewhere are tested before
 // they are used: what no start made is refused, or is such that a start might have made it.
 use answers::Answer;
-use moves::record::Origin;
+use moves::Origin;
+use packing::Told;
 use paused::Going;
 use paused::Phase;
-use stages::cursor::Cursor;
+use stages::Cursor;
 use stepping::Turned;
-use taking::step::Hand;
+use taking::Hand;
 ghost use mathlib.Core.Path.{_≡_};
 ghost use mathlib.Core.Bool.{true, false};
 ghost use Prim.Native.Nat.{_≤_};
 ghost use lib.ListN.{length};
-ghost use Rattle.settings.specs.Row.{unfit};
+ghost use Rattle.panel.specs.Row.{unfit};
 ghost use Rattle.moves.specs.Form.{recordSize};
-ghost use Rattle.taking.specs.declared.step.Hand.the-variants.{Nothing, Block};
+ghost use Rattle.taking.specs.declared.Hand.the-variants.{Nothing, Block};
 ghost use Rattle.paused.specs.declared.Phase.the-variants.{Running};
 ghost use Rattle.holding.specs.Held.{Held};
 ghost use Rattle.stepping.specs.Meets.{Stands};
 ghost use Rattle.runwords.specs.Laid.{Small};
 ghost use Rattle.inhand.specs.State.{stateWords, handIn, runIn};
 ghost use Rattle.onemove.specs.OneMove.{CanGoOn, OneGiven, FirstMeets, AskMeets, NextMeets, BegunMeets, placesStarted, StartsIn};
-
-// What an ask comes to: a record, which is laid at the front of the lent bytes; the answer of the run; or words that are no state, or bytes that have no room for a record.
-pub enum Told {
-    Move,
-    Over(Answer),
-    Refused,
-}
 
 // Lays the first record of a block that was opened, and puts what is left of it into the words.
 fn give_one(state: &mut [u32], c: Cursor, origin: Origin, record: &mut [u8])
@@ -80,7 +74,7 @@ fn can_go_on(g: Going, tape: usize, places: usize) -> bool
     ensures sound { λ r. ⌜ (r ≡ true → CanGoOn tape places g) ⌝ }
     ensures all { λ r. ⌜ (CanGoOn tape places g → r ≡ true) ⌝ }
 {
-    if !runwords::kept::is_kept(g) {
+    if !runbounds::is_kept(g) {
         return false;
     }
     let run = g.run;
@@ -103,19 +97,19 @@ fn go_on(
     requires { ⌜ (length (now state) ≡ stateWords) × (handIn (now state) ≡ Nothing) × (runIn (now state) .phase ≡ Running) × (recordSize ≤ length (now «record»)) ⌝ }
     ensures { λ r. ⌜ AskMeets (now (tape .entry)) (now (table .entry)) (now (settings .entry)) (now (places .entry)) (now (state .entry)) (now («record» .entry)) r (now (state .exit)) (now («record» .exit)) ⌝ }
 {
-    if settings::row::unfit(settings) {
+    if panel::unfit(settings) {
         return Told::Refused;
     }
-    let set = settings::row::settings_of(settings);
-    if settings::control::settings_wrong(table, set) {
+    let set = panel::settings_of(settings);
+    if settings::settings_wrong(table, set) {
         return Told::Refused;
     }
-    let g = runwords::taken::going_of(&state[inhand::GOING..]);
+    let g = runwords::going_of(&state[inhand::GOING..]);
     if !can_go_on(g, tape.len(), places.len()) {
         return Told::Refused;
     }
     let end = g.end;
-    let running = settings::control::with_points(set, false);
+    let running = settings::with_points(set, false);
     let lines = &tape[..end];
     let turned = stepping::advance(lines, table, running, places, g);
     give_first(state, turned, record)
@@ -144,7 +138,7 @@ pub fn next(
         }
         return Told::Refused;
     }
-    let phase = runwords::taken::phase_of(&state[inhand::GOING..]);
+    let phase = runwords::phase_of(&state[inhand::GOING..]);
     match phase {
         Phase::Over(again) => Told::Over(again),
         Phase::Running => go_on(tape, table, settings, places, state, record),
@@ -156,10 +150,10 @@ fn begun(tape: &[u8], table: &[i32], settings: &[i32], places: &mut [u64]) -> Go
     ensures run { λ r. ⌜ BegunMeets (now (tape .entry)) (now (table .entry)) (now (settings .entry)) (now (places .entry)) r ⌝ }
     ensures filled { λ _. ⌜ now (places .exit) ≡ placesStarted (now (tape .entry)) (now (table .entry)) (now (settings .entry)) (now (places .entry)) ⌝ }
 {
-    if settings::row::unfit(settings) {
+    if panel::unfit(settings) {
         return starting::refused(alarms::BAD_SETTINGS, 0);
     }
-    let set = settings::row::settings_of(settings);
+    let set = panel::settings_of(settings);
     starting::start(tape, table, set, places)
 }
 

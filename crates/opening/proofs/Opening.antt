@@ -5,26 +5,26 @@ use mathlib.Core.Bool.{Bool}
 use mathlib.Core.List.{List, [], _++_, append-assoc}
 use Prim.Native.Nat.{ℕ}
 use Rattle.moves.specs.Kinds.{tool, miscellaneous, speed}
-use Rattle.moves.specs.declared.record.Record.{Record}
+use Rattle.moves.specs.declared.Record.{Record}
 use Rattle.block.specs.Slots.{has, sSlot, tSlot, spindleSlot, coolantSlot}
-use Rattle.block.specs.declared.words.Block.{Block}
-use Rattle.state.specs.declared.modal.State.{State}
-use Rattle.turning.specs.Cursor as turn
+use Rattle.block.specs.declared.Block.{Block}
+use Rattle.state.specs.declared.State.{State}
+use Rattle.passes.specs.Cursor as turn
 use Rattle.threads.specs.Cursor as thread
 use Rattle.plunges.specs.Cursor as groove
 use Rattle.bores.specs.Cursor as drill
 use Rattle.asking.specs.Judge.{doing}
-use Rattle.deeds.specs.declared.deed.Deed.{Deed}
-use Rattle.deeds.specs.declared.deed.Deed.the-variants as deed
+use Rattle.deeds.specs.declared.Deed.{Deed}
+use Rattle.deeds.specs.declared.Deed.the-variants as deed
 use Rattle.writing.specs.Writes.{oneIf, speedOf, toolOf, mOf, speedAndTool, spindleAndCoolant, done, stops, stopping, writes}
 use Rattle.stages.specs.Cursor.{singleOf, behindDeed, fromCentre, fromCoolant, fromSpindle, fromTool, fromSpeed, behindAt, restAt, restFrom, deedRow, restOf, stageBehind, Planned, Sound}
 use Rattle.opening.specs.Opened.{ownIn, ownRow, Opens, OpensDeed, IsPlan}
-use Rattle.stages.specs.declared.cursor.Stage.{Stage}
-use Rattle.stages.specs.declared.cursor.Stage.the-variants as stage
-use Rattle.stages.specs.declared.cursor.Due.{Due}
-use Rattle.stages.specs.declared.cursor.Due.the-variants.{Turning, Threading, Grooving, Drilling, Single}
-use Rattle.stages.specs.declared.cursor.Own.{Own}
-use Rattle.stages.specs.declared.cursor.Plan.{Plan}
+use Rattle.stages.specs.declared.Stage.{Stage}
+use Rattle.stages.specs.declared.Stage.the-variants as stage
+use Rattle.stages.specs.declared.Due.{Due}
+use Rattle.stages.specs.declared.Due.the-variants.{Turning, Threading, Grooving, Drilling, Single}
+use Rattle.stages.specs.declared.Own.{Own}
+use Rattle.stages.specs.declared.Plan.{Plan}
 use Rattle.stages.proofs.Cursors.{behind-due}
 
 -- ---- a cycle that is opened

@@ -4,20 +4,20 @@ use mathlib.Core.Bool.{Bool, true, false}
 use mathlib.Core.List.{List, _∷_, _++_}
 use lib.IntN.{pos}
 use Rattle.moves.specs.Kinds.{rapid}
-use Rattle.moves.specs.declared.record.Record.{Record}
+use Rattle.moves.specs.declared.Record.{Record}
 use Rattle.arcs.specs.Arcs.{endRecord, centreRecord}
 use Rattle.block.specs.Slots.{has, sSlot, tSlot, spindleSlot, flowSlot, coolantSlot, codeIn}
-use Rattle.block.specs.declared.words.Block.{Block}
-use Rattle.state.specs.declared.modal.State.{State}
+use Rattle.block.specs.declared.Block.{Block}
+use Rattle.state.specs.declared.State.{State}
 use Rattle.asking.specs.Judge.{doing}
-use Rattle.deeds.specs.declared.deed.Deed.{Deed}
-use Rattle.deeds.specs.declared.deed.Deed.the-variants as deed
-use Rattle.deeds.specs.declared.deed.Round.{Round}
+use Rattle.deeds.specs.declared.Deed.{Deed}
+use Rattle.deeds.specs.declared.Deed.the-variants as deed
+use Rattle.deeds.specs.declared.Round.{Round}
 use Rattle.writing.specs.Writes.{oneIf, done, stops}
 use Rattle.stages.specs.Cursor.{behindDeed, restFrom, DueSound}
-use Rattle.stages.specs.declared.cursor.Due.{Due}
-use Rattle.stages.specs.declared.cursor.Own.{Own}
-use Rattle.stages.specs.declared.cursor.Plan.{Plan}
+use Rattle.stages.specs.declared.Due.{Due}
+use Rattle.stages.specs.declared.Own.{Own}
+use Rattle.stages.specs.declared.Plan.{Plan}
 
 -- a record that no centre follows, and the two records of an arc
 unfoldable pub alone : Record → Own

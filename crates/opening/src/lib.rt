@@ -1,15 +1,15 @@
 // A block is opened: its plan is made, and its first record is due. (02, of an arc: "a following record, kind 10, carries the centre".) What is due stands in `stages`.
-use block::words::Block;
+use block::Block;
 use cycles::Cycle;
-use deeds::deed::Deed;
-use deeds::deed::Round;
-use moves::record::Record;
-use stages::cursor::Cursor;
-use stages::cursor::Due;
-use stages::cursor::Own;
-use stages::cursor::Plan;
-use stages::cursor::Stage;
-use state::modal::State;
+use deeds::Deed;
+use deeds::Round;
+use moves::Record;
+use stages::Cursor;
+use stages::Due;
+use stages::Own;
+use stages::Plan;
+use stages::Stage;
+use state::State;
 ghost use mathlib.Core.Path.{_≡_};
 ghost use mathlib.Core.Bool.{false};
 ghost use Rattle.cycles.specs.Cycle.{wrong, records};
@@ -35,8 +35,8 @@ fn own_of_round(r: Round) -> Own
     ensures { λ o. ⌜ o ≡ ownOfRound r ⌝ }
 {
     let arc = r.arc;
-    let goes = arcs::arc::end_record(arc, r.f, r.g95);
-    let centre = arcs::arc::centre_record(arc);
+    let goes = arcs::end_record(arc, r.f, r.g95);
+    let centre = arcs::centre_record(arc);
     Own {
         goes,
         centre,
@@ -64,10 +64,10 @@ fn open_cycle(c: Cycle) -> Due
     ensures { λ r. ⌜ Opens (records c) r ⌝ }
 {
     match c {
-        Cycle::Turning(t) => Due::Turning(turning::cursor::open(t)),
-        Cycle::Threading(t) => Due::Threading(threads::cursor::open(t)),
-        Cycle::Grooving(g) => Due::Grooving(plunges::cursor::open(g)),
-        Cycle::Drilling(b) => Due::Drilling(bores::cursor::open(b)),
+        Cycle::Turning(t) => Due::Turning(passes::open(t)),
+        Cycle::Threading(t) => Due::Threading(threads::open(t)),
+        Cycle::Grooving(g) => Due::Grooving(plunges::open(g)),
+        Cycle::Drilling(b) => Due::Drilling(bores::open(b)),
     }
 }
 
@@ -77,8 +77,8 @@ fn open_deed(d: Deed, stops: bool) -> Due
     ensures { λ r. ⌜ OpensDeed d stops r ⌝ }
 {
     match d {
-        Deed::Nothing => Due::Single(stages::cursor::stage_behind(stops)),
-        Deed::Nowhere => Due::Single(stages::cursor::stage_behind(stops)),
+        Deed::Nothing => Due::Single(stages::stage_behind(stops)),
+        Deed::Nowhere => Due::Single(stages::stage_behind(stops)),
         Deed::Dwell(_) => Due::Single(Stage::Deed),
         Deed::Straight(_) => Due::Single(Stage::Deed),
         Deed::Round(_) => Due::Single(Stage::Deed),
@@ -98,17 +98,17 @@ fn plan_of(s: State, b: Block, d: Deed) -> Plan
     Plan {
         x: s.x,
         z: s.z,
-        speed: block::words::code_in(b, block::words::S),
-        tool: block::words::code_in(b, block::words::T),
-        spindle: block::words::code_in(b, block::words::SPINDLE),
-        coolant: block::words::code_in(b, block::words::COOLANT),
+        speed: block::code_in(b, block::S),
+        tool: block::code_in(b, block::T),
+        spindle: block::code_in(b, block::SPINDLE),
+        coolant: block::code_in(b, block::COOLANT),
         own,
         x_behind: behind.x,
         z_behind: behind.z,
-        stop: block::words::code_in(b, block::words::FLOW),
-        has_tool: block::words::has(b, block::words::T),
-        has_spindle: block::words::has(b, block::words::SPINDLE),
-        has_coolant: block::words::has(b, block::words::COOLANT),
+        stop: block::code_in(b, block::FLOW),
+        has_tool: block::has(b, block::T),
+        has_spindle: block::has(b, block::SPINDLE),
+        has_coolant: block::has(b, block::COOLANT),
         stops,
         g96: s.g96,
         deed,
@@ -121,6 +121,6 @@ pub fn open_block(s: State, b: Block, d: Deed) -> Cursor
     ensures { λ r. ⌜ (restOf (r .plan) (r .due) ≡ writes s b d) × Sound (r .plan) (r .due) ⌝ }
 {
     let plan = plan_of(s, b, d);
-    let due = stages::cursor::first_due(plan, block::words::has(b, block::words::S));
+    let due = stages::first_due(plan, block::has(b, block::S));
     Cursor { plan, due }
 }

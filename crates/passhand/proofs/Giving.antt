@@ -7,14 +7,14 @@ use Prim.Native.Nat.{ℕ, _+_}
 use native.Mathlib.Omega.{arith}
 use lib.Dec.{eqb}
 use lib.ListN.{length, drop-of-length-le}
-use Rattle.whole.specs.Bytes.{laid}
+use Rattle.octets.specs.Bytes.{laid}
 use Rattle.telling.proofs.Tells.{Tells, told-no}
 use Rattle.moves.specs.Form.{recordBytes, listed}
-use Rattle.moves.specs.declared.record.Record.{Record}
-use Rattle.moves.specs.declared.record.Origin.{Origin}
+use Rattle.moves.specs.declared.Record.{Record}
+use Rattle.moves.specs.declared.Origin.{Origin}
 use Rattle.stages.specs.Cursor.{cycleOver, DueSound, Sound, Makes}
-use Rattle.stages.specs.declared.cursor.Due.{Due}
-use Rattle.stages.specs.declared.cursor.Plan.{Plan}
+use Rattle.stages.specs.declared.Due.{Due}
+use Rattle.stages.specs.declared.Plan.{Plan}
 use Rattle.cells.specs.Numbers.{at}
 use Rattle.cyclewords.specs.Sizes.{dueWords}
 use Rattle.handwords.specs.Due.{isEmpty, deeds, isDeed, slotOf}

@@ -1,12 +1,12 @@
 // The next record of a threading cycle.
 use crate::Gave;
-use moves::record::Origin;
-use threads::cursor::Cursor;
+use moves::Origin;
+use threads::Cursor;
 ghost use mathlib.Core.Path.{_≡_};
 ghost use Prim.Native.Nat.{_≤_};
 ghost use lib.ListN.{length};
 ghost use Rattle.moves.specs.Form.{recordSize};
-ghost use Rattle.stages.specs.declared.cursor.Due.the-variants.{Threading};
+ghost use Rattle.stages.specs.declared.Due.the-variants.{Threading};
 ghost use Rattle.cyclewords.specs.Sizes.{dueWords};
 ghost use Rattle.cyclewords.specs.Threaded.{threadingOf};
 ghost use Rattle.passhand.specs.Gives.{hasNext, Put, Gives};
@@ -16,7 +16,7 @@ fn put_behind(due: &mut [u32], c: Cursor, stops: bool)
     requires { ⌜ length (now due) ≡ dueWords ⌝ }
     ensures { λ _. ⌜ Put stops (Threading c) (now (due .exit)) ⌝ }
 {
-    if threads::cursor::is_over(c) & !stops {
+    if threads::is_over(c) & !stops {
         cells::put::put_words(due, 0, &handwords::empty_words());
         return;
     }
@@ -29,13 +29,13 @@ pub fn give(due: &mut [u32], record: &mut [u8], origin: Origin, stops: bool) -> 
     ensures { λ r. ⌜ Gives (hasNext (Threading (threadingOf (now (due .entry))))) (Threading (threadingOf (now (due .entry)))) origin stops (now (due .entry)) (now («record» .entry)) r (now (due .exit)) (now («record» .exit)) ⌝ }
 {
     let c = cyclewords::threaded::cursor_of(due);
-    if threads::cursor::is_over(c) {
+    if threads::is_over(c) {
         return Gave::Other;
     }
     if !threadable::is_fit(c) {
         return Gave::Unfit;
     }
-    let handed = threads::cursor::next(c);
+    let handed = threads::next(c);
     let what = handed.record;
     let behind = handed.rest;
     moves::list::put_record(record, what, origin);

@@ -1,13 +1,13 @@
 // A turning cycle is written a pass at a time by a loop of its own, in which its cursor is not one case of all that can be due. The room for all of it was asked for before (alarm 20).
-use moves::record::Origin;
-use turning::cursor::Cursor;
+use moves::Origin;
+use passes::Cursor;
 ghost use mathlib.Core.Path.{_≡_};
 ghost use mathlib.Core.Bool.{true};
 ghost use Prim.Native.Nat.{_+_, _*_, _≤_};
 ghost use lib.ListN.{length};
-ghost use Rattle.whole.specs.Bytes.{laid};
+ghost use Rattle.octets.specs.Bytes.{laid};
 ghost use Rattle.moves.specs.Form.{recordSize, rowFrom};
-ghost use Rattle.turning.specs.Cursor.{restOf, beforePass, Sound};
+ghost use Rattle.passes.specs.Cursor.{restOf, beforePass, Sound};
 
 // The bytes of the four records of a pass, and of two of them.
 const PASS_SIZE: usize = 4 * moves::RECORD_SIZE;
@@ -21,8 +21,8 @@ pub fn put_passes(buf: &mut [u8], first: usize, c: Cursor, origin: Origin) -> us
 {
     let mut left = c;
     let mut at = first;
-    while !turning::cursor::is_over(left) {
-        let passed = turning::cursor::next_pass(left);
+    while !passes::is_over(left) {
+        let passed = passes::next_pass(left);
         let home = passed.home;
         let outward = passed.outward;
         let along = passed.along;

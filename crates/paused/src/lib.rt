@@ -3,7 +3,7 @@
 use ahead::Frame;
 use answers::Answer;
 use resuming::Waiting;
-use taking::step::Run;
+use taking::Run;
 
 // Whether there is more to run, or the answer that the run has come to.
 pub enum Phase {

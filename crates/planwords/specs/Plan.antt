@@ -2,11 +2,11 @@
 use mathlib.Core.Path.{_≡_}
 use mathlib.Core.List.{List}
 use Prim.Native.Nat.{ℕ, _+_}
-use Rattle.moves.specs.declared.record.Record.{Record}
-use Rattle.moves.specs.declared.record.Origin.{Origin}
-use Rattle.stages.specs.declared.cursor.Due.{Due}
-use Rattle.stages.specs.declared.cursor.Own.{Own}
-use Rattle.stages.specs.declared.cursor.Plan.{Plan}
+use Rattle.moves.specs.declared.Record.{Record}
+use Rattle.moves.specs.declared.Origin.{Origin}
+use Rattle.stages.specs.declared.Due.{Due}
+use Rattle.stages.specs.declared.Own.{Own}
+use Rattle.stages.specs.declared.Plan.{Plan}
 use Rattle.cells.specs.Numbers.{at, flagAt, signedAt, byteAt, shortAt}
 
 -- how many words a plan takes, and a record in it

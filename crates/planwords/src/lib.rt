@@ -1,13 +1,13 @@
 // The plan of a block in words, without its deed, which is kept with what is due, and the block that it came from.
-use moves::record::Origin;
-use moves::record::Record;
-use stages::cursor::Due;
-use stages::cursor::Own;
-use stages::cursor::Plan;
+use moves::Origin;
+use moves::Record;
+use stages::Due;
+use stages::Own;
+use stages::Plan;
 ghost use mathlib.Core.Path.{_≡_};
 ghost use Prim.Native.Nat.{_+_, _≤_};
 ghost use lib.ListN.{length};
-ghost use Rattle.stages.specs.declared.cursor.Due.{Due};
+ghost use Rattle.stages.specs.declared.Due.{Due};
 ghost use Rattle.resumable.specs.Kept.{withDeed};
 ghost use Rattle.planwords.specs.Plan.{planWords, recordWords, recordAt, ownAt, Tail, planOf, originOf};
 

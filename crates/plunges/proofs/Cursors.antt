@@ -11,7 +11,7 @@ use lib.ListN.{length}
 use mir.Syntax.{w32}
 use mir.Val.{SFits}
 use borrow.Author.Tests.{lt-ltb, ltb-true, ltb-false, ne-eqb}
-use Rattle.whole.specs.declared.signed.Side.the-variants.{Minus}
+use Rattle.whole.specs.declared.Side.the-variants.{Minus}
 use Rattle.whole.specs.Signed.{along}
 use Rattle.whole.proofs.Integers.{whole, range, sub-in, abs}
 use Rattle.whole.proofs.Sides.{along-add, between}
@@ -19,14 +19,14 @@ use Rattle.division.specs.declared.Pieces.{Pieces}
 use Rattle.division.specs.Division.{sum}
 use Rattle.division.specs.Carried.{rowOf}
 use Rattle.division.proofs.Carrying.{row-length, none-left}
-use Rattle.moves.specs.declared.record.Record.{Record}
+use Rattle.moves.specs.declared.Record.{Record}
 use Rattle.axes.specs.Goes.{dwellAt}
-use Rattle.grooving.specs.declared.groove.Way.{Way}
-use Rattle.grooving.specs.declared.groove.Groove.{Groove}
-use Rattle.plunges.specs.declared.cursor.Stage.{Stage}
-use Rattle.plunges.specs.declared.cursor.Stage.the-variants.{Cut, Back, Dwell, Out, Across, Over}
-use Rattle.plunges.specs.declared.cursor.Cursor.{Cursor}
-use Rattle.plunges.specs.declared.cursor.CutAndBack.{CutAndBack}
+use Rattle.grooving.specs.declared.Way.{Way}
+use Rattle.grooving.specs.declared.Groove.{Groove}
+use Rattle.plunges.specs.declared.Stage.{Stage}
+use Rattle.plunges.specs.declared.Stage.the-variants.{Cut, Back, Dwell, Out, Across, Over}
+use Rattle.plunges.specs.declared.Cursor.{Cursor}
+use Rattle.plunges.specs.declared.CutAndBack.{CutAndBack}
 use Rattle.grooving.specs.Grooving.{lengthOf, wrong, rest, steps, cuts, cutTo, outTo, deepAt, cutting, dwelling, plunge, plunges, afterFirst, grooving}
 use Rattle.plunges.specs.Cursor.{others, fromOut, restAt, restOf, overAt, over, beforeCutAt, beforeCut, beforeCutAndBackAt, beforeCutAndBack, beforeDwellAt, beforeDwell, behindCutsAt, behindCuts, at, afterCut, Ready, Sound, Makes, MakesCut}
 use Rattle.grooving.proofs.Asked.{width-fits}

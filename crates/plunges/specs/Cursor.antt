@@ -7,17 +7,17 @@ use lib.Dec.{ltb}
 use lib.IntN.{_+ℤ_}
 use mir.Syntax.{w32}
 use mir.Val.{SFits}
-use Rattle.whole.specs.declared.signed.Side.the-variants.{Minus}
+use Rattle.whole.specs.declared.Side.the-variants.{Minus}
 use Rattle.whole.specs.Signed.{along}
 use Rattle.division.specs.Division.{sum}
 use Rattle.division.specs.Carried.{rowOf}
-use Rattle.moves.specs.declared.record.Record.{Record}
+use Rattle.moves.specs.declared.Record.{Record}
 use Rattle.axes.specs.Goes.{dwellAt}
 use Rattle.grooving.specs.Grooving.{lengthOf, cuts, outTo, deepAt, cutting, dwelling, plunges}
-use Rattle.plunges.specs.declared.cursor.Stage.{Stage}
-use Rattle.plunges.specs.declared.cursor.Stage.the-variants.{Cut, Back, Dwell, Out, Across, Over}
-use Rattle.plunges.specs.declared.cursor.Cursor.{Cursor}
-use Rattle.plunges.specs.declared.cursor.CutAndBack.{CutAndBack}
+use Rattle.plunges.specs.declared.Stage.{Stage}
+use Rattle.plunges.specs.declared.Stage.the-variants.{Cut, Back, Dwell, Out, Across, Over}
+use Rattle.plunges.specs.declared.Cursor.{Cursor}
+use Rattle.plunges.specs.declared.CutAndBack.{CutAndBack}
 
 -- ---- the records that are left
 -- behind the present plunge: the others, and the rapid to the start

@@ -1,6 +1,6 @@
 // What comes next of a groove that is opened.
-use crate::cursor::Cursor;
-use crate::cursor::Stage;
+use crate::Cursor;
+use crate::Stage;
 ghost use mathlib.Core.Path.{_≡_};
 ghost use Rattle.plunges.specs.Cursor.{beforeCut, beforeCutAndBack, beforeDwell};
 

@@ -6,18 +6,18 @@ use mathlib.Core.List.{List, [], _∷_, _++_}
 use Prim.Native.Nat.{ℕ, _+_, _*_}
 use native.Mathlib.Omega.{arith}
 use lib.ListN.{length}
-use Rattle.whole.specs.Bytes.{laid}
-use Rattle.whole.proofs.Laying.{laid-nil}
+use Rattle.octets.specs.Bytes.{laid}
+use Rattle.octets.proofs.Laying.{laid-nil}
 use Rattle.moves.specs.Form.{recordSize, rowFrom}
-use Rattle.moves.specs.declared.record.Record.{Record}
-use Rattle.moves.specs.declared.record.Origin.{Origin}
+use Rattle.moves.specs.declared.Record.{Record}
+use Rattle.moves.specs.declared.Origin.{Origin}
 use Rattle.moves.proofs.Rows.{from-none}
 use Rattle.writing.specs.Writes.{oneIf}
 use Rattle.stages.specs.Cursor.{behindDeed, restFrom, restOf, singleOf}
-use Rattle.stages.specs.declared.cursor.Stage.the-variants.{Stop}
-use Rattle.stages.specs.declared.cursor.Due.{Due}
-use Rattle.stages.specs.declared.cursor.Due.the-variants.{Turning, Threading, Grooving, Drilling, Single}
-use Rattle.stages.specs.declared.cursor.Plan.{Plan}
+use Rattle.stages.specs.declared.Stage.the-variants.{Stop}
+use Rattle.stages.specs.declared.Due.{Due}
+use Rattle.stages.specs.declared.Due.the-variants.{Turning, Threading, Grooving, Drilling, Single}
+use Rattle.stages.specs.declared.Plan.{Plan}
 use Rattle.putting.specs.Cycles.{hasOwnLoop, cycleRow}
 
 -- ---- what was written, of the cycle that was told

@@ -5,16 +5,16 @@ use mathlib.Core.List.{List, [], _∷_}
 use Prim.Native.Nat.{ℕ, _+_}
 use native.Mathlib.Omega.{arith}
 use lib.ListN.{length}
-use Rattle.whole.specs.Bytes.{laid}
-use Rattle.whole.proofs.Laying.{laid-nil}
+use Rattle.octets.specs.Bytes.{laid}
+use Rattle.octets.proofs.Laying.{laid-nil}
 use Rattle.moves.specs.Form.{recordStart, rowFrom}
-use Rattle.moves.specs.declared.record.Record.{Record}
-use Rattle.moves.specs.declared.record.Origin.{Origin}
+use Rattle.moves.specs.declared.Record.{Record}
+use Rattle.moves.specs.declared.Origin.{Origin}
 use Rattle.moves.proofs.Rows.{from-none}
-use Rattle.block.specs.declared.words.Block.{Block}
-use Rattle.state.specs.declared.modal.State.{State}
+use Rattle.block.specs.declared.Block.{Block}
+use Rattle.state.specs.declared.State.{State}
 use Rattle.asking.specs.Judge.{doing}
-use Rattle.deeds.specs.declared.deed.Deed.{Deed}
+use Rattle.deeds.specs.declared.Deed.{Deed}
 use Rattle.writing.specs.Writes.{writes, otherCount}
 use Rattle.writing.proofs.Chain.{writes-length}
 

@@ -1,17 +1,17 @@
 // The records of a block are written: one loop asks the opened block (`handing`) for them, up to a G84 or a G86, which `passing` and `plunging` write. (01: "written into the room after the header".)
 // The room for all of them was asked for before (alarm 20).
-use block::words::Block;
-use deeds::deed::Deed;
-use moves::record::Origin;
-use stages::cursor::Cursor;
-use stages::cursor::Due;
-use stages::cursor::Stage;
-use state::modal::State;
+use block::Block;
+use deeds::Deed;
+use moves::Origin;
+use stages::Cursor;
+use stages::Due;
+use stages::Stage;
+use state::State;
 ghost use mathlib.Core.Path.{_≡_};
 ghost use mathlib.Core.Bool.{true};
 ghost use Prim.Native.Nat.{_+_, _*_, _≤_};
 ghost use lib.ListN.{length};
-ghost use Rattle.whole.specs.Bytes.{laid};
+ghost use Rattle.octets.specs.Bytes.{laid};
 ghost use Rattle.moves.specs.Form.{recordSize, recordStart, rowFrom};
 ghost use Rattle.asking.specs.Judge.{doing};
 ghost use Rattle.deeds.specs.Known.{Right, Known};
@@ -24,7 +24,7 @@ fn has_own_loop(due: Due) -> bool
     ensures { λ r. ⌜ r ≡ hasOwnLoop due ⌝ }
 {
     match due {
-        Due::Turning(c) => turning::cursor::is_before_pass(c),
+        Due::Turning(c) => passes::is_before_pass(c),
         Due::Threading(_) => false,
         Due::Grooving(c) => plunges::before::is_before_cut(c),
         Due::Drilling(_) => false,
@@ -67,7 +67,7 @@ pub fn put_rest(buf: &mut [u8], first: usize, c: Cursor, origin: Origin)
     if has_own_loop(due) {
         let behind = put_cycle(buf, at, due, origin);
         if plan.stops {
-            let stop = stages::cursor::single(plan, Stage::Stop);
+            let stop = stages::single(plan, Stage::Stop);
             moves::list::put_record(&mut buf[behind..], stop, origin);
         }
     }

@@ -10,7 +10,7 @@ use mir.Syntax.{w32}
 use mir.Val.{SFits}
 use borrow.Author.Tests.{leb-true, le-leb}
 use Rattle.whole.specs.Signed.{minus, along}
-use Rattle.whole.specs.declared.signed.Side.the-variants.{Minus, Zero, Plus}
+use Rattle.whole.specs.declared.Side.the-variants.{Minus, Zero, Plus}
 use Rattle.whole.proofs.Integers.{add-in, sub-in, abs, range, fits, up-neg, down-neg}
 
 -- the last numbers on either side

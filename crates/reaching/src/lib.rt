@@ -1,5 +1,5 @@
-// Whether a step of a length to a side ends where 32 bits hold it. It is asked of a step that comes from outside, before `whole::signed::step` takes it.
-use whole::signed::Side;
+// Whether a step of a length to a side ends where 32 bits hold it. It is asked of a step that comes from outside, before `whole::step` takes it.
+use whole::Side;
 ghost use mathlib.Core.Path.{_≡_};
 ghost use mathlib.Core.Bool.{true};
 ghost use lib.IntN.{_+ℤ_};
@@ -18,8 +18,8 @@ pub fn ends_within(from: i32, side: Side, by: u32) -> bool
     ensures all { λ r. ⌜ (SFits w32 (from +ℤ along side by) → r ≡ true) ⌝ }
 {
     match side {
-        Side::Plus => by <= whole::signed::distance(GREATEST, from),
-        Side::Minus => by <= whole::signed::distance(from, LEAST),
+        Side::Plus => by <= whole::distance(GREATEST, from),
+        Side::Minus => by <= whole::distance(from, LEAST),
         Side::Zero => true,
     }
 }

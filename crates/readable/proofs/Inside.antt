@@ -11,16 +11,16 @@ use Rattle.whole.specs.Position.{tableLeast, tableGreatest, inTable}
 use Rattle.whole.proofs.Integers.{whole, lt-false}
 use Rattle.whole.proofs.Positions.{in-range, in-table}
 use Rattle.moves.specs.Kinds.{isArc, isCentre, inTurn}
-use Rattle.moves.specs.declared.record.Record.{Record}
+use Rattle.moves.specs.declared.Record.{Record}
 use Rattle.lawful.specs.Right.{isKnown, flagsRight, inThreeTables, placeRight, isRight, rightFrom, rightRow}
-use Rattle.codes.specs.declared.meaning.Motion.the-variants as motion
-use Rattle.acts.specs.declared.acting.Kept.{Kept}
-use Rattle.acts.specs.declared.acting.Kept.the-variants as kept
-use Rattle.block.specs.declared.words.Block.{Block}
+use Rattle.codes.specs.declared.Motion.the-variants as motion
+use Rattle.acts.specs.declared.Kept.{Kept}
+use Rattle.acts.specs.declared.Kept.the-variants as kept
+use Rattle.block.specs.declared.Block.{Block}
 use Rattle.settings.specs.Known.{SpanIn, InRange}
 use Rattle.settings.specs.Limits.{outside, outsideSpan}
-use Rattle.settings.specs.declared.control.Settings.{Settings}
-use Rattle.settings.specs.declared.limits.Span.{Span}
+use Rattle.settings.specs.declared.Settings.{Settings}
+use Rattle.settings.specs.declared.Span.{Span}
 use Rattle.axes.specs.Limits.{anyOutside}
 use Rattle.axes.proofs.Reaching.{inside}
 use Rattle.axes.proofs.Every.{Every}
@@ -29,8 +29,8 @@ use Rattle.straying.proofs.Limits.{end-in-table}
 use Rattle.cycles.specs.Cycle.{records}
 use Rattle.deeds.specs.Deed.{hasPath, hasCentre, straightIf, startSpot, endSpot, centreWords, roundOf, roundIf, moveOf, deedOf}
 use Rattle.deeds.specs.Known.{Centred, InThrice, Right}
-use Rattle.deeds.specs.declared.deed.Deed.{Deed}
-use Rattle.deeds.specs.declared.deed.Deed.the-variants as deed
+use Rattle.deeds.specs.declared.Deed.{Deed}
+use Rattle.deeds.specs.declared.Deed.the-variants as deed
 use Rattle.scaling.specs.declared.Sending.{Sending}
 use Rattle.deeds.proofs.Made.{Starts}
 use Rattle.asking.specs.Judge.{asksOf, doing}

@@ -6,19 +6,19 @@ use mathlib.Core.List.{List, [], _∷_, _++_}
 use Prim.Native.Nat.{ℕ, _-_, _<_}
 use lib.IntN.{ℤ}
 use lib.ListN.{length, take}
-use Rattle.moves.specs.declared.record.Record.{Record}
+use Rattle.moves.specs.declared.Record.{Record}
 use Rattle.lawful.specs.Right.{rightFrom, rightRow, Lawful}
 use Rattle.readback.specs.Laws.{WrittenForm}
 use Rattle.readback.proofs.Laws.{written-is-read}
 use Rattle.settings.specs.Known.{InRange}
-use Rattle.settings.specs.declared.control.Settings.{Settings}
+use Rattle.settings.specs.declared.Settings.{Settings}
 use Rattle.block.specs.Slots.{has, sSlot, tSlot, spindleSlot, flowSlot, coolantSlot, codeIn}
 use Rattle.block.specs.Worded.{Worded}
-use Rattle.block.specs.declared.words.Block.{Block}
+use Rattle.block.specs.declared.Block.{Block}
 use Rattle.state.specs.Modal.{blockMotion, settled}
 use Rattle.state.specs.Known.{Sound}
-use Rattle.state.specs.declared.modal.State.{State}
-use Rattle.state.proofs.Ranges.{settled-sound, start-sound}
+use Rattle.state.specs.declared.State.{State}
+use Rattle.targets.proofs.Ranges.{settled-sound, start-sound}
 use Rattle.deeds.proofs.Made.{starts}
 use Rattle.asking.specs.Judge.{doing}
 use Rattle.writing.specs.Writes.{oneIf, speedOf, toolOf, mOf, speedAndTool, spindleAndCoolant, done, stops, stopping, writes}
@@ -30,7 +30,7 @@ use Rattle.machine.proofs.Running.{sound-after}
 use Rattle.ahead.specs.Ahead.{mostCalls, onto}
 use Rattle.ahead.specs.declared.ProgramAt.{ProgramAt}
 use Rattle.taking.specs.Steps.{Task, taskOf, Step, blockOn, runAfter}
-use Rattle.taking.specs.declared.step.Run.{Run}
+use Rattle.taking.specs.declared.Run.{Run}
 use Rattle.taking.proofs.Lines.{worded-on}
 use Rattle.runners.specs.Runs.{recordsOf, programRun}
 use Rattle.runners.proofs.Going.{listed-whats}

@@ -6,10 +6,10 @@ use Prim.Native.Nat.{ℕ}
 use lib.IntN.{ℤ}
 use Rattle.whole.specs.Position.{inTable}
 use Rattle.moves.specs.Kinds.{isArc, isCentre, rapid, feed, thread, dwell, tool, miscellaneous, speed}
-use Rattle.moves.specs.declared.record.Record.{Record}
+use Rattle.moves.specs.declared.Record.{Record}
 use Rattle.lawful.specs.Right.{isKnown, flagOf, flagsRight, inThreeTables, placeRight, isRight, rightFrom, rightRow}
 use Rattle.arcs.specs.Arcs.{endRecord, centreRecord, arcRecords}
-use Rattle.arcs.specs.declared.arc.Arc.{Arc}
+use Rattle.arcs.specs.declared.Arc.{Arc}
 use Rattle.demands.proofs.DeedKinds.{OfKinds}
 
 -- no arc and no centre, and its flags are those of its kind

@@ -6,9 +6,9 @@ use Prim.Native.Nat.{ℕ}
 use lib.IntN.{ℤ}
 use lib.ListN.{length, take}
 use Rattle.moves.specs.Form.{recordStart}
-use Rattle.moves.specs.declared.record.Listed.{Listed}
+use Rattle.moves.specs.declared.Listed.{Listed}
 use Rattle.readback.specs.Laws.{WrittenForm, ReadsBack}
-use Rattle.settings.specs.declared.control.Settings.{Settings}
+use Rattle.settings.specs.declared.Settings.{Settings}
 use Rattle.runners.specs.Runs.{listedOf}
 use Rattle.answers.specs.declared.Answer.the-variants.{Complete}
 use Rattle.interpreter.specs.Answers.{interpretation, answerOf, bufferOf}

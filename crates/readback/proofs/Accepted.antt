@@ -14,8 +14,8 @@ use Rattle.judging.specs.Refusals.{badMark, badVersion, badLength, badRecord, b
 use Rattle.lawful.specs.Versions.{firstVersion, numberOf, sizeIn, limitIn, startIn}
 use Rattle.judging.specs.Judging.{markWrong, lengthWrong, recordsWrong, judgedAs, judged, versionNamed}
 use Rattle.readback.specs.Lists.{foundAt, pickedFrom, readOf, heldBy, readAs, readJudged}
-use Rattle.lawful.specs.declared.versions.Version.{Version}
-use Rattle.lawful.specs.declared.versions.Version.the-variants.{One, Two}
+use Rattle.lawful.specs.declared.Version.{Version}
+use Rattle.lawful.specs.declared.Version.the-variants.{One, Two}
 use Rattle.judging.specs.declared.Judged.the-variants.{Good, Refused}
 use Rattle.readback.specs.declared.read.ReadBack.{ReadBack}
 use Rattle.readback.specs.declared.read.ReadBack.the-variants as read

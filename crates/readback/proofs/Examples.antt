@@ -5,20 +5,20 @@ use mathlib.Core.Bool.{true, false}
 use mathlib.Core.List.{List, [], _∷_, _++_}
 use Prim.Native.Nat.{ℕ}
 use lib.IntN.{pos}
-use Rattle.whole.specs.Bytes.{signedBytes, signedOf}
+use Rattle.octets.specs.Bytes.{signedBytes, signedOf}
 use Rattle.whole.specs.Position.{inTable}
 use Rattle.whole.specs.Signed.{minus}
 use Rattle.moves.specs.Form.{headerBytes, whatBytes, originBytes, recordBytes, rowBytes, listBytes, listed, roomOf}
 use Rattle.moves.specs.Kinds.{flagged, plain, rapid, feed, miscellaneous}
 use Rattle.moves.specs.Reading.{recordIn, originIn}
-use Rattle.moves.specs.declared.record.Origin.{Origin}
-use Rattle.moves.specs.declared.record.Listed.{Listed}
+use Rattle.moves.specs.declared.Origin.{Origin}
+use Rattle.moves.specs.declared.Listed.{Listed}
 use Rattle.judging.specs.Refusals.{badMark, badVersion, badLength, badIndex}
 use Rattle.lawful.specs.Right.{flagOf, placeRight, isRight, rightFrom}
 use Rattle.judging.specs.Judging.{markWrong, lengthWrong, recordsEvery, sparesZero, recordsWrong, judgedAs, judged}
 use Rattle.readback.specs.Lists.{foundAt, readOf}
 use Rattle.readback.specs.Laws.{firstHeader, firstRow}
-use Rattle.lawful.specs.declared.versions.Version.the-variants.{One, Two}
+use Rattle.lawful.specs.declared.Version.the-variants.{One, Two}
 use Rattle.judging.specs.declared.Judged.the-variants.{Good, Refused}
 use Rattle.readback.specs.declared.read.Source.the-variants.{From, Untold}
 use Rattle.readback.specs.declared.read.ReadBack.the-variants as read

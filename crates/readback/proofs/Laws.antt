@@ -9,11 +9,11 @@ use lib.Dec.{ltb, eqb}
 use lib.ListN.{length, getD, drop, length-append, length-drop}
 use lib.Seq.{drop-at, drop-drop, drop-cons}
 use borrow.Author.Tests.{eqb-true, not-false, eq-eqb, le-ltb}
-use Rattle.whole.specs.Bytes.{littleEndian}
+use Rattle.octets.specs.Bytes.{littleEndian}
 use Rattle.moves.specs.Form.{headerSize, recordSize, version, mark, headerZeroAt, headerBytes, whatBytes, originBytes, recordBytes, rowBytes, listBytes, whats, AllFitting}
 use Rattle.moves.specs.Reading.{recordIn, rowIn, countIn, listIn}
-use Rattle.moves.specs.declared.record.Record.{Record}
-use Rattle.moves.specs.declared.record.Listed.{Listed}
+use Rattle.moves.specs.declared.Record.{Record}
+use Rattle.moves.specs.declared.Listed.{Listed}
 use Rattle.moves.proofs.Writing.{length-what}
 use Rattle.moves.proofs.OneReading.{length-record, length-row, what-read, row-read}
 use Rattle.judging.specs.Refusals.{badIndex}
@@ -22,8 +22,8 @@ use Rattle.lawful.specs.Versions.{firstRecordSize, numberOf, sizeIn, limitIn, s
 use Rattle.judging.specs.Judging.{markDiffers, markWrong, lengthWrong, recordsEvery, spareZero, sparesZero, recordsWrong, judgedAs, judged}
 use Rattle.readback.specs.Lists.{foundAt, sourceIn, readOf}
 use Rattle.readback.specs.Laws.{picked, ReadsBack, WrittenIsRead, Bytes, ReadIsWritten, firstHeader, firstRow, firstPicked, FirstReadsBack, FirstIsRead, firstIn, FirstIsForm, OnceJudged}
-use Rattle.lawful.specs.declared.versions.Version.{Version}
-use Rattle.lawful.specs.declared.versions.Version.the-variants.{One, Two}
+use Rattle.lawful.specs.declared.Version.{Version}
+use Rattle.lawful.specs.declared.Version.the-variants.{One, Two}
 use Rattle.judging.specs.declared.Judged.the-variants.{Good}
 use Rattle.readback.specs.declared.read.ReadBack.the-variants as read
 use Rattle.judging.proofs.Judges.{none-true, both-true}

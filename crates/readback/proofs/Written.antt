@@ -12,12 +12,12 @@ use lib.Seq.{length-take-le, drop-drop, drop-cons, getD-drop}
 use borrow.Author.Tests.{eqb-true, ltb-true, ltb-false}
 use mir.Syntax.{w32}
 use mir.Val.{SFits}
-use Rattle.whole.specs.Bytes.{littleEndian, valueOf, wordOf, signedBytes, signedOf}
+use Rattle.octets.specs.Bytes.{littleEndian, valueOf, wordOf, signedBytes, signedOf}
 use Rattle.whole.proofs.Integers.{whole, sub-in, fits}
-use Rattle.whole.proofs.LittleEndian.{AllBytes, write-back}
+use Rattle.octets.proofs.LittleEndian.{AllBytes, write-back}
 use Rattle.moves.specs.Form.{recordSize, programAt, blockAt, whatBytes, originBytes, recordBytes, rowBytes, whats, Fitting, FittingOrigin, AllFitting, AllListed}
 use Rattle.moves.specs.Reading.{numberAt, recordIn, originIn, listedIn, rowIn}
-use Rattle.moves.specs.declared.record.Record.{Record}
+use Rattle.moves.specs.declared.Record.{Record}
 use Rattle.lawful.specs.Versions.{firstRecordSize}
 use Rattle.judging.specs.Judging.{recordsEvery, spareZero, sparesZero}
 use Rattle.readback.specs.Laws.{Bytes, firstRow}

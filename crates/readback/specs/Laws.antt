@@ -5,18 +5,18 @@ use mathlib.Core.Path.{_≡_}
 use mathlib.Core.List.{List, [], _∷_, _++_}
 use Prim.Native.Nat.{ℕ, zero, suc, _<_}
 use lib.ListN.{length, getD, drop}
-use Rattle.whole.specs.Bytes.{littleEndian}
+use Rattle.octets.specs.Bytes.{littleEndian}
 use Rattle.moves.specs.Form.{headerSize, mark, whatBytes, listBytes}
 use Rattle.moves.specs.Reading.{countIn, listIn}
-use Rattle.moves.specs.declared.record.Record.{Record}
-use Rattle.moves.specs.declared.record.Listed.{Listed}
+use Rattle.moves.specs.declared.Record.{Record}
+use Rattle.moves.specs.declared.Listed.{Listed}
 use Rattle.judging.specs.Refusals.{badIndex}
 use Rattle.lawful.specs.Right.{Lawful, FirstLawful}
 use Rattle.lawful.specs.Versions.{firstVersion, firstRecordSize}
 use Rattle.judging.specs.Judging.{recordsEvery, judged}
 use Rattle.readback.specs.Lists.{readOf, readJudged}
-use Rattle.lawful.specs.declared.versions.Version.{Version}
-use Rattle.lawful.specs.declared.versions.Version.the-variants.{One, Two}
+use Rattle.lawful.specs.declared.Version.{Version}
+use Rattle.lawful.specs.declared.Version.the-variants.{One, Two}
 use Rattle.judging.specs.declared.Judged.the-variants.{Good}
 use Rattle.readback.specs.declared.read.Source.the-variants.{From, Untold}
 use Rattle.readback.specs.declared.read.ReadBack.{ReadBack}

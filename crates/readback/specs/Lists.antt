@@ -8,8 +8,8 @@ use lib.ListN.{length, drop}
 use Rattle.moves.specs.Form.{headerSize}
 use Rattle.moves.specs.Reading.{recordIn, originIn}
 use Rattle.lawful.specs.Versions.{sizeIn, startIn}
-use Rattle.lawful.specs.declared.versions.Version.{Version}
-use Rattle.lawful.specs.declared.versions.Version.the-variants.{One, Two}
+use Rattle.lawful.specs.declared.Version.{Version}
+use Rattle.lawful.specs.declared.Version.the-variants.{One, Two}
 use Rattle.judging.specs.Refusals.{badIndex}
 use Rattle.judging.specs.Judging.{judged, versionNamed}
 use Rattle.judging.specs.declared.Judged.{Judged}

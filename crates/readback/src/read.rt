@@ -1,8 +1,8 @@
 // Record k of a list, or a refusal. (02: "given bytes, either record k or a refusal".)
 use judging::Judged;
-use lawful::versions::Version;
-use moves::record::Origin;
-use moves::record::Record;
+use lawful::Version;
+use moves::Origin;
+use moves::Record;
 ghost use mathlib.Core.Path.{_≡_};
 ghost use Prim.Native.Nat.{_+_, _≤_};
 ghost use lib.ListN.{length};
@@ -42,7 +42,7 @@ fn read_as(list: &[u8], v: Version, k: usize) -> ReadBack
     requires { ⌜ headerSize ≤ length (now list) ⌝ }
     ensures { λ r. ⌜ r ≡ readAs v (now (list .entry)) k ⌝ }
 {
-    let held = (list.len() - moves::HEADER_SIZE) / lawful::versions::record_size(v);
+    let held = (list.len() - moves::HEADER_SIZE) / lawful::record_size(v);
     if k >= held {
         return ReadBack::Refused(judging::BAD_INDEX);
     }

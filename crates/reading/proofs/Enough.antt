@@ -30,11 +30,11 @@ use Rattle.alarms.specs.Numbers as alarms
 use Rattle.places.specs.Places.{lineKey, blockKey, entryOf}
 use Rattle.places.proofs.Rows.{inserted-length}
 use Rattle.block.specs.Words.{headOf, headOfNext}
-use Rattle.rules.specs.Rules.{judged}
-use Rattle.rules.specs.declared.judge.Judged.{Judged}
-use Rattle.block.specs.declared.words.Head.{Head}
-use Rattle.block.specs.declared.words.Head.the-variants.{Blank, ProgramLine, BlockLine, Other}
-use Rattle.reading.specs.declared.read.Read.the-variants.{Whole, Alarm}
+use Rattle.showing.specs.Showing.{judged}
+use Rattle.showing.specs.declared.Judged.{Judged}
+use Rattle.block.specs.declared.Head.{Head}
+use Rattle.block.specs.declared.Head.the-variants.{Blank, ProgramLine, BlockLine, Other}
+use Rattle.reading.specs.declared.Read.the-variants.{Whole, Alarm}
 use Rattle.reading.specs.Reading.{longestTape, History, nothingRead, lineAlarm, noted, endsWith, readLines, readOf}
 use Rattle.reading.specs.Filling.{Filled, nothingFilled, filed, roomAlarm, alarmWith, Readings, readLinesWith, readWith, mostPlaces}
 use Rattle.reading.proofs.Tabled.{judged-head, none-itself}

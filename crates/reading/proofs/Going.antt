@@ -19,12 +19,12 @@ use Rattle.whole.specs.Among.{among}
 use Rattle.tape.specs.Lines.{lineAt, lines}
 use Rattle.tape.specs.declared.line.Line.{Line}
 use Rattle.tape.proofs.Lining.{lines-more, lines-end}
-use Rattle.rules.specs.Rules.{judged}
-use Rattle.rules.specs.declared.judge.Judged.{Judged}
-use Rattle.block.specs.declared.words.Head.{Head}
-use Rattle.block.specs.declared.words.Head.the-variants.{Blank, ProgramLine, BlockLine, Other}
-use Rattle.reading.specs.declared.read.Read.{Read}
-use Rattle.reading.specs.declared.read.Read.the-variants.{Whole, Alarm}
+use Rattle.showing.specs.Showing.{judged}
+use Rattle.showing.specs.declared.Judged.{Judged}
+use Rattle.block.specs.declared.Head.{Head}
+use Rattle.block.specs.declared.Head.the-variants.{Blank, ProgramLine, BlockLine, Other}
+use Rattle.reading.specs.declared.Read.{Read}
+use Rattle.reading.specs.declared.Read.the-variants.{Whole, Alarm}
 use Rattle.reading.specs.Reading.{History, nothingRead, headAlarm, lineAlarm, noted, endsWith}
 use Rattle.reading.specs.Filling.{Filled, nothingFilled, filed, roomAlarm, alarmWith, Readings, told, readLinesWith, placesBehind}
 use Rattle.reading.proofs.Noting.{Sound, sound-start, sound-program, sound-block}

@@ -10,7 +10,7 @@ use Rattle.places.specs.Places.{sixteenBits, lineKey, blockKey, entryOf, Row, i
 use Rattle.places.specs.Lines.{noProgram}
 use Rattle.places.proofs.Walks.{line-keys, line-block, block-line, block-programs, block-numbers, still, held-own, held-other, not-held}
 use Rattle.whole.specs.Among.{among}
-use Rattle.block.specs.declared.words.Head.the-variants.{ProgramLine, BlockLine}
+use Rattle.block.specs.declared.Head.the-variants.{ProgramLine, BlockLine}
 use Rattle.reading.specs.Reading.{History, nothingRead, noted}
 use Rattle.reading.specs.Filling.{Filled, nothingFilled, filed}
 

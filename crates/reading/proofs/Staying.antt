@@ -10,11 +10,11 @@ use borrow.Author.Tests.{eqb-true, eqb-false, ne-eqb}
 use Rattle.alarms.specs.Numbers.{placesTooShort}
 use Rattle.alarms.specs.Numbers as alarms
 use Rattle.tape.specs.Lines.{seekFrom, opensTape, Text, lines}
-use Rattle.rules.specs.Rules.{judged}
-use Rattle.block.specs.declared.words.Head.{Head}
-use Rattle.block.specs.declared.words.Head.the-variants.{Blank, ProgramLine, BlockLine, Other}
-use Rattle.reading.specs.declared.read.Read.{Read}
-use Rattle.reading.specs.declared.read.Read.the-variants.{Alarm}
+use Rattle.showing.specs.Showing.{judged}
+use Rattle.block.specs.declared.Head.{Head}
+use Rattle.block.specs.declared.Head.the-variants.{Blank, ProgramLine, BlockLine, Other}
+use Rattle.reading.specs.declared.Read.{Read}
+use Rattle.reading.specs.declared.Read.the-variants.{Alarm}
 use Rattle.reading.specs.Reading.{History, nothingRead, lineAlarm, noted, endsWith, afterLine, readLines, readOf}
 use Rattle.reading.specs.Filling.{Filled, nothingFilled, filed, roomAlarm, alarmWith, Readings, afterLineWith, readLinesWith, readWith}
 

@@ -21,17 +21,17 @@ use Rattle.addresses.specs.Words.{nextWord}
 use Rattle.addresses.specs.declared.NextWord.{NextWord}
 use Rattle.addresses.specs.declared.NextWord.the-variants as next
 use Rattle.tape.proofs.Lining.{line-in, lines-more, lines-end}
-use Rattle.rules.specs.Rules.{refusedLine, judged, judgedBy}
+use Rattle.showing.specs.Showing.{refusedLine, judged, judgedBy}
 use Rattle.block.specs.Words.{longestLine, headOf, headOfNext, lineBy, lineOf}
-use Rattle.rules.specs.declared.judge.Judged.{Judged}
-use Rattle.block.specs.declared.words.ReadLine.{ReadLine}
-use Rattle.block.specs.declared.words.Head.{Head}
-use Rattle.block.specs.declared.words.Head.the-variants.{Blank, ProgramLine, BlockLine, Other}
+use Rattle.showing.specs.declared.Judged.{Judged}
+use Rattle.block.specs.declared.ReadLine.{ReadLine}
+use Rattle.block.specs.declared.Head.{Head}
+use Rattle.block.specs.declared.Head.the-variants.{Blank, ProgramLine, BlockLine, Other}
 use Rattle.block.proofs.Heads.{HeadIn}
-use Rattle.rules.proofs.Heads.{judged-in}
+use Rattle.showing.proofs.Heads.{judged-in}
 use Rattle.finding.specs.Finds.{Finds}
 use Rattle.finding.proofs.Walking.{kindOf, linesOf, table-finds}
-use Rattle.reading.specs.declared.read.Read.the-variants.{Whole, Alarm}
+use Rattle.reading.specs.declared.Read.the-variants.{Whole, Alarm}
 use Rattle.reading.specs.Reading.{longestTape, History, nothingRead, headAlarm, lineAlarm, noted, endsWith}
 use Rattle.reading.specs.Filling.{Filled, nothingFilled, filed, roomAlarm, alarmWith, Readings, readLinesWith, readWith, acceptedLines, acceptedOf}
 use Rattle.reading.proofs.Noting.{Sound, sound-start, sound-program, sound-block}

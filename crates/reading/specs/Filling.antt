@@ -11,14 +11,14 @@ use Rattle.alarms.specs.Numbers as alarms
 use Rattle.places.specs.Places.{lineKey, blockKey, entryOf, inserted}
 use Rattle.places.specs.Lines.{noProgram}
 use Rattle.tape.specs.Lines.{seekFrom, opensTape, Text, lines}
-use Rattle.rules.specs.Rules.{judged}
-use Rattle.rules.specs.declared.judge.Judged.{Judged}
-use Rattle.block.specs.declared.words.Head.{Head}
-use Rattle.block.specs.declared.words.Head.the-variants.{Blank, ProgramLine, BlockLine, Other}
+use Rattle.showing.specs.Showing.{judged}
+use Rattle.showing.specs.declared.Judged.{Judged}
+use Rattle.block.specs.declared.Head.{Head}
+use Rattle.block.specs.declared.Head.the-variants.{Blank, ProgramLine, BlockLine, Other}
 use Rattle.reading.specs.Reading.{History, nothingRead, lineAlarm, noted, endsWith, numberOf, placeOf}
-use Rattle.reading.specs.declared.read.Read.{Read}
-use Rattle.reading.specs.declared.read.Read.the-variants.{Whole, Alarm}
-use Rattle.reading.specs.declared.read.TapeRead.{TapeRead}
+use Rattle.reading.specs.declared.Read.{Read}
+use Rattle.reading.specs.declared.Read.the-variants.{Whole, Alarm}
+use Rattle.reading.specs.declared.TapeRead.{TapeRead}
 
 -- what the table holds of the lines that were read so far, in the order of the table: its row of entries; and the number of the present program
 pub record Filled : Type 0 where

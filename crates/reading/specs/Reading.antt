@@ -10,12 +10,12 @@ use Rattle.alarms.specs.Numbers.{noProgram, badLineStart, wordRules, missingPoi
 use Rattle.settings.specs.Wrong.{highestProgram}
 use Rattle.whole.specs.Among.{among}
 use Rattle.tape.specs.Lines.{seekFrom, opensTape, Text, lines}
-use Rattle.rules.specs.Rules.{judged}
-use Rattle.rules.specs.declared.judge.Judged.{Judged}
-use Rattle.block.specs.declared.words.Head.{Head}
-use Rattle.block.specs.declared.words.Head.the-variants.{Blank, ProgramLine, BlockLine, Other}
-use Rattle.reading.specs.declared.read.Read.{Read}
-use Rattle.reading.specs.declared.read.Read.the-variants.{Whole, Alarm}
+use Rattle.showing.specs.Showing.{judged}
+use Rattle.showing.specs.declared.Judged.{Judged}
+use Rattle.block.specs.declared.Head.{Head}
+use Rattle.block.specs.declared.Head.the-variants.{Blank, ProgramLine, BlockLine, Other}
+use Rattle.reading.specs.declared.Read.{Read}
+use Rattle.reading.specs.declared.Read.the-variants.{Whole, Alarm}
 
 -- "tape above 65,535 bytes" is alarm 2, and is not read
 abbrev pub longestTape : ℕ

@@ -2,15 +2,15 @@
 -- Assumes nothing.
 use mathlib.Core.Path.{_≡_, refl, sym, ap, _∙_}
 use mathlib.Core.Bool.{Bool, true, false, not}
-use Rattle.turning.specs.Cursor as turn
+use Rattle.passes.specs.Cursor as turn
 use Rattle.threads.specs.Cursor as thread
 use Rattle.plunges.specs.Cursor as groove
 use Rattle.bores.specs.Cursor as drill
 use Rattle.telling.proofs.Tells.{Tells, never, tells-of}
 use Rattle.stages.specs.Cursor.{DueSound}
-use Rattle.stages.specs.declared.cursor.Stage.{Stage}
-use Rattle.stages.specs.declared.cursor.Due.{Due}
-use Rattle.stages.specs.declared.cursor.Due.the-variants.{Turning, Threading, Grooving, Drilling, Single}
+use Rattle.stages.specs.declared.Stage.{Stage}
+use Rattle.stages.specs.declared.Due.{Due}
+use Rattle.stages.specs.declared.Due.the-variants.{Turning, Threading, Grooving, Drilling, Single}
 use Rattle.resumable.specs.Kept.{leads, isLead, Fits}
 
 -- what is no record of a word before the deed fits where it is sound

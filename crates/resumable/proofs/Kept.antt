@@ -5,14 +5,14 @@ use mathlib.Core.Bool.{Bool, true, false}
 use mathlib.Core.List.{List, [], _∷_}
 use native.Mathlib.Omega.{arith}
 use lib.ListN.{length, length-append}
-use Rattle.moves.specs.declared.record.Record.{Record}
+use Rattle.moves.specs.declared.Record.{Record}
 use Rattle.telling.proofs.Tells.{never}
 use Rattle.stages.specs.Cursor.{singleOf, behindDeed, fromCentre, fromCoolant, fromSpindle, fromTool, behindAt, restAt, restFrom, deedRow, restOf, DueSound, Planned, Sound}
-use Rattle.stages.specs.declared.cursor.Stage.{Stage}
-use Rattle.stages.specs.declared.cursor.Stage.the-variants.{Speed, Tool, Spindle, Coolant, Deed, Centre, Stop, Over}
-use Rattle.stages.specs.declared.cursor.Due.{Due}
-use Rattle.stages.specs.declared.cursor.Due.the-variants.{Turning, Threading, Grooving, Drilling, Single}
-use Rattle.stages.specs.declared.cursor.Plan.{Plan}
+use Rattle.stages.specs.declared.Stage.{Stage}
+use Rattle.stages.specs.declared.Stage.the-variants.{Speed, Tool, Spindle, Coolant, Deed, Centre, Stop, Over}
+use Rattle.stages.specs.declared.Due.{Due}
+use Rattle.stages.specs.declared.Due.the-variants.{Turning, Threading, Grooving, Drilling, Single}
+use Rattle.stages.specs.declared.Plan.{Plan}
 use Rattle.resumable.specs.Kept.{leads, isLead, kept, withDeed, Fits}
 
 -- ---- what fits, as the deed of a plan

@@ -1,7 +1,7 @@
 // Whether a block that is opened can go on with what is kept of it: what is due, or the deed while a record of a word before it is due. What `opening` and `handing` left always can; what comes
 // back from a caller who kept it may have been changed, and is asked here before its next record is.
-use stages::cursor::Due;
-use stages::cursor::Stage;
+use stages::Due;
+use stages::Stage;
 ghost use mathlib.Core.Path.{_≡_};
 ghost use mathlib.Core.Bool.{true, not};
 ghost use Rattle.resumable.specs.Kept.{leads, Fits};

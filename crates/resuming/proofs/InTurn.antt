@@ -14,12 +14,12 @@ use Rattle.finding.specs.Finding.{findProgram}
 use Rattle.reading.specs.Filling.{readWith}
 use Rattle.places.specs.declared.Found.{Found}
 use Rattle.places.specs.declared.Found.the-variants.{At, Nowhere}
-use Rattle.reading.specs.declared.read.Read.{Read}
-use Rattle.reading.specs.declared.read.Read.the-variants as read
-use Rattle.settings.specs.declared.control.Settings.{Settings}
+use Rattle.reading.specs.declared.Read.{Read}
+use Rattle.reading.specs.declared.Read.the-variants as read
+use Rattle.settings.specs.declared.Settings.{Settings}
 use Rattle.ahead.specs.Ahead.{mostCalls}
 use Rattle.taking.specs.Steps.{Task, taskOf}
-use Rattle.taking.specs.declared.step.Run.{Run}
+use Rattle.taking.specs.declared.Run.{Run}
 use Rattle.runners.specs.Runs.{Ran, programRun, listedOf, blocksInAll, enough}
 use Rattle.answers.specs.declared.Answer.{Answer}
 use Rattle.answers.specs.declared.Answer.the-variants.{Alarm}

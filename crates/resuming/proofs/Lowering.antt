@@ -16,7 +16,7 @@ use Rattle.ahead.specs.Ahead.{onto}
 use Rattle.ahead.specs.declared.Frame.{Frame}
 use Rattle.ahead.specs.declared.Onward.{Onward}
 use Rattle.ahead.specs.declared.Onward.the-variants.{On, Call, Jump, Return, End, Stop}
-use Rattle.taking.specs.declared.step.Run.{Run}
+use Rattle.taking.specs.declared.Run.{Run}
 use Rattle.taking.proofs.Stepping.{some-left}
 
 abbrev pub Lower : Onward → Run → Run → Type 0

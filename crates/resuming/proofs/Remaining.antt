@@ -9,9 +9,9 @@ use Rattle.taking.specs.Steps.{Task, Step, takenFrom}
 use Rattle.ahead.specs.declared.ProgramAt.{ProgramAt}
 use Rattle.ahead.specs.declared.Onward.{Onward}
 use Rattle.ahead.specs.declared.Onward.the-variants.{On, Call, Jump, Return, End, Stop}
-use Rattle.taking.specs.declared.step.Run.{Run}
-use Rattle.runners.specs.declared.run.Ending.{Ending}
-use Rattle.runners.specs.declared.run.Ending.the-variants.{Returned, Ended, Stopped}
+use Rattle.taking.specs.declared.Run.{Run}
+use Rattle.runners.specs.declared.Ending.{Ending}
+use Rattle.runners.specs.declared.Ending.the-variants.{Returned, Ended, Stopped}
 use Rattle.runners.specs.Runs.{Ran, ran, pre, goBack, andThen, goOn, onward, blocks, blocksInAll, enough, repeated, called, programRun}
 use Rattle.resuming.specs.declared.Waiting.{Waiting}
 use Rattle.resuming.specs.Remains.{waiting, frameAt, back, remain, deeper, gone}

@@ -8,7 +8,7 @@ use Rattle.taking.specs.Steps.{Task, Step, listedBy, takenFrom}
 use Rattle.ahead.specs.declared.ProgramAt.{ProgramAt}
 use Rattle.ahead.specs.declared.Onward.{Onward}
 use Rattle.ahead.specs.declared.Onward.the-variants.{On, Call, Jump, Return, End, Stop}
-use Rattle.taking.specs.declared.step.Run.{Run}
+use Rattle.taking.specs.declared.Run.{Run}
 use Rattle.runners.specs.Runs.{Ran, pre, listedOf, blocksInAll}
 use Rattle.answers.specs.Answers.{answerBy}
 use Rattle.interpreter.specs.Answers.{resultOf}

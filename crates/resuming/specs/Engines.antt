@@ -11,15 +11,15 @@ use Rattle.finding.specs.Finding.{findProgram}
 use Rattle.reading.specs.Filling.{readWith}
 use Rattle.places.specs.declared.Found.{Found}
 use Rattle.places.specs.declared.Found.the-variants.{At, Nowhere}
-use Rattle.reading.specs.declared.read.Read.{Read}
-use Rattle.reading.specs.declared.read.Read.the-variants as read
-use Rattle.settings.specs.declared.control.Settings.{Settings}
+use Rattle.reading.specs.declared.Read.{Read}
+use Rattle.reading.specs.declared.Read.the-variants as read
+use Rattle.settings.specs.declared.Settings.{Settings}
 use Rattle.ahead.specs.Ahead.{mostCalls}
 use Rattle.taking.specs.Steps.{Task, taskOf, Step, listedBy, takenFrom}
 use Rattle.ahead.specs.declared.ProgramAt.{ProgramAt}
 use Rattle.ahead.specs.declared.Onward.{Onward}
 use Rattle.ahead.specs.declared.Onward.the-variants.{On, Call, Jump, Return, End, Stop}
-use Rattle.taking.specs.declared.step.Run.{Run}
+use Rattle.taking.specs.declared.Run.{Run}
 use Rattle.runners.specs.Runs.{enough}
 use Rattle.answers.specs.declared.Answer.{Answer}
 use Rattle.answers.specs.declared.Answer.the-variants.{Complete, Alarm}

@@ -2,7 +2,7 @@
 use mathlib.Core.Path.{_≡_}
 use mathlib.Core.List.{List, [], _∷_}
 use Prim.Native.Nat.{ℕ, zero, suc}
-use Rattle.moves.specs.declared.record.Listed.{Listed}
+use Rattle.moves.specs.declared.Listed.{Listed}
 use Rattle.answers.specs.declared.Answer.{Answer}
 use Rattle.runners.specs.Runs.{listedOf}
 use Rattle.interpreter.specs.Answers.{Result}

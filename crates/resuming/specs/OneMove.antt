@@ -5,7 +5,7 @@ use mathlib.Core.List.{List}
 use Prim.Native.Nat.{ℕ, _≤_}
 use lib.IntN.{ℤ}
 use Rattle.reading.specs.Filling.{mostPlaces}
-use Rattle.settings.specs.declared.control.Settings.{Settings}
+use Rattle.settings.specs.declared.Settings.{Settings}
 use Rattle.interpreter.specs.Answers.{interpretation, firstInterpretation}
 use Rattle.resuming.specs.Handed.{leftOf, handed, roomy}
 use Rattle.resuming.specs.Engines.{start, answersOf}

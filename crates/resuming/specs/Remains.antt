@@ -7,8 +7,8 @@ use Rattle.ahead.specs.declared.Frame.{Frame}
 use Rattle.ahead.specs.declared.Onward.{Onward}
 use Rattle.ahead.specs.declared.Onward.the-variants.{On, Call, Jump, Return, End, Stop}
 use Rattle.taking.specs.Steps.{Task, Step}
-use Rattle.taking.specs.declared.step.Run.{Run}
-use Rattle.runners.specs.declared.run.Ending.the-variants.{Returned, Ended, Stopped}
+use Rattle.taking.specs.declared.Run.{Run}
+use Rattle.runners.specs.declared.Ending.the-variants.{Returned, Ended, Stopped}
 use Rattle.resuming.specs.declared.Waiting.{Waiting}
 use Rattle.runners.specs.Runs.{Ran, ran, pre, andThen, blocks, enough, repeated, called, programRun}
 

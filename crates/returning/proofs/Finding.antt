@@ -16,7 +16,7 @@ use Rattle.ahead.specs.declared.Onward.{Onward}
 use Rattle.ahead.specs.declared.Onward.the-variants.{On, Call, Jump, Return, End, Stop}
 use Rattle.ahead.proofs.Places.{found-within}
 use Rattle.taking.specs.Hands.{Leads}
-use Rattle.taking.specs.declared.step.Run.{Run}
+use Rattle.taking.specs.declared.Run.{Run}
 use Rattle.resuming.specs.declared.Waiting.{Waiting}
 use Rattle.resuming.specs.Remains.{waiting}
 use Rattle.paused.specs.Kept.{nobody}

@@ -7,7 +7,7 @@ use borrow.Author.Tests.{eq-eqb, ne-eqb}
 use Rattle.alarms.specs.Numbers.{tooDeep, wrongEnd}
 use Rattle.ahead.specs.Ahead.{mostCalls}
 use Rattle.ahead.specs.declared.ProgramAt.{ProgramAt}
-use Rattle.taking.specs.declared.step.Run.{Run}
+use Rattle.taking.specs.declared.Run.{Run}
 use Rattle.resuming.specs.declared.Waiting.{Waiting}
 use Rattle.paused.specs.declared.Going.{Going}
 use Rattle.returning.specs.Moving.{stoppedWith, topOf, poppedTo, repeatedTo, cameBack, pushedTo, calledTo}

@@ -4,7 +4,7 @@ use Prim.Native.Nat.{ℕ, zero, suc, _-_}
 use lib.IntN.{ℤ}
 use lib.ListN.{getD, take}
 use Rattle.moves.specs.Form.{recordLimit}
-use Rattle.settings.specs.declared.control.Settings.{Settings}
+use Rattle.settings.specs.declared.Settings.{Settings}
 use Rattle.finding.specs.Finds.{Finds}
 use Rattle.ahead.specs.Ahead.{mostCalls, FoundAt}
 use Rattle.taking.specs.Steps.{Task, taskIn}

@@ -6,7 +6,7 @@ use answers::Answer;
 use paused::Going;
 use paused::Phase;
 use resuming::Waiting;
-use taking::step::Run;
+use taking::Run;
 ghost use mathlib.Core.Path.{_≡_};
 ghost use Prim.Native.Nat.{_≤_, _<_};
 ghost use lib.ListN.{length};

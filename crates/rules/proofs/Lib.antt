@@ -1,4 +1,2 @@
 -- The laws of the word rules and of a judged line.
 pub mod Ruling
-pub mod Heads
-pub mod Bare

@@ -7,7 +7,7 @@ use native.Mathlib.Omega.{arith}
 use lib.Dec.{T}
 use lib.ListN.{getD}
 use borrow.Author.Tests.{ne-eqb}
-use Rattle.block.specs.declared.words.Block.{Block}
+use Rattle.block.specs.declared.Block.{Block}
 use Rattle.block.specs.Slots.{numbersFrom, has, anyOf}
 
 -- a test of the numbers from k to before `to`, by the first of them

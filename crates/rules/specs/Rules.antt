@@ -1,22 +1,15 @@
 -- 01: "Word rules, else alarm 9 (numbers are judged on every word; what a G or M asks or forbids holds only where that word applies)". A definition for each rule;
 -- each is true where the rule is broken. All but `unknownNumber`, `lateN` and `afterProgram` look at the applying words alone.
-use mathlib.Core.Bool.{Bool, false, cond, not, _&&_, _||_}
+use mathlib.Core.Bool.{Bool, false, not, _&&_, _||_}
 use mathlib.Core.List.{List, [], _∷_, _++_}
 use Prim.Native.Nat.{ℕ}
 use lib.Dec.{ltb, eqb}
-use lib.ListN.{length}
-use Rattle.acts.specs.Stands.{none, greatestBits, standsBy, isTaken}
-use Rattle.acts.specs.declared.stands.Stands.{Stands}
-use Rattle.acts.specs.declared.stands.Path.{Path}
-use Rattle.acts.specs.declared.stands.Path.the-variants.{Any, Forbidden, EachAxis, ZAlone}
-use Rattle.alarms.specs.Numbers.{badByteOrNumber, lineTooLong}
-use Rattle.block.specs.declared.words.Block.{Block}
-use Rattle.block.specs.declared.words.Head.{Head}
-use Rattle.block.specs.declared.words.Head.the-variants.{Blank, ProgramLine, BlockLine, Other}
-use Rattle.block.specs.declared.words.ReadLine.{ReadLine}
-use Rattle.rules.specs.declared.judge.Judged.{Judged}
+use Rattle.stands.specs.Stands.{none, greatestBits, standsBy, isTaken}
+use Rattle.stands.specs.declared.Stands.{Stands}
+use Rattle.stands.specs.declared.Path.{Path}
+use Rattle.stands.specs.declared.Path.the-variants.{Any, Forbidden, EachAxis, ZAlone}
+use Rattle.block.specs.declared.Block.{Block}
 use Rattle.block.specs.Slots.{xSlot, zSlot, uSlot, wSlot, iSlot, kSlot, fSlot, sSlot, tSlot, dSlot, lSlot, motionSlot, steeringSlot, pathSlots, centreSlots, mSlots, pSlots, dSlots, indexes, has, codeIn, gIn, anyOf, anyIn}
-use Rattle.block.specs.Words.{longestLine, lineOf}
 
 -- "a G25 or G27 block": group 6
 unfoldable pub callsOrJumps : Block → Bool
@@ -94,35 +87,3 @@ motionWrong b = wrongBy (standsBy (gIn b motionSlot)) b
 -- a block breaks a rule
 unfoldable pub broken : Block → Bool
 broken b = (unknownNumber b || lateN b) || (axisTwice b || ((lWordWrong b || moreThanL b) || motionWrong b))
-
--- a line breaks a rule. Of a line that begins with another word it is not asked: that is alarm 6, which goes before
-unfoldable pub brokenBy : Head → Block → Bool
-brokenBy (ProgramLine n) b = afterProgram b
-brokenBy (BlockLine n) b = broken b
-brokenBy Blank b = false
-brokenBy (Other lacks) b = false
-
--- an X Z U W number of a line lacks its point: one behind the first word, or the first, where that is another word than a number of a program or a block
-unfoldable pub lacksBy : Head → Bool → Bool
-lacksBy (Other lacks) behind = lacks || behind
-lacksBy (ProgramLine n) behind = behind
-lacksBy (BlockLine n) behind = behind
-lacksBy Blank behind = behind
-
--- a line of an alarm or none, and a head, and no words behind that
-abbrev pub judgedAlone : ℕ → Head → Judged
-judgedAlone n h = record { alarm = n; head = h; pointless = lacksBy h false; broken = false; ends = false }
-
--- a line with alarm 7 or 5: the other fields say nothing
-abbrev pub refusedLine : ℕ → Judged
-refusedLine n = judgedAlone n Blank
-
-abbrev pub judgedBy : ReadLine → Judged
-judgedBy r =
-    cond (r .faulty) (refusedLine badByteOrNumber)
-    (record { alarm = 0; head = r .head; pointless = lacksBy (r .head) (r .block .pointless); broken = brokenBy (r .head) (r .block); ends = r .block .ends })
-
--- what the text of a line, its end not counted, shows by itself: alarm 7, then 5, else how it begins, whether an X Z U W number of it lacks its point, whether it
--- breaks a rule, and whether the last word behind its first is M30
-unfoldable pub judged : List ℕ → Judged
-judged s = cond (ltb longestLine (length s)) (refusedLine lineTooLong) (judgedBy (lineOf s))

@@ -10,16 +10,16 @@ use lib.IntN.{ℤ}
 use lib.ListN.{length, length-append}
 use denote.Enum.Declared.{tagOf}
 use types.Run.{OneOf}
-use Rattle.whole.specs.Bytes.{laid}
-use Rattle.whole.proofs.Laying.{laid-nil, length-laid}
+use Rattle.octets.specs.Bytes.{laid}
+use Rattle.octets.proofs.Laying.{laid-nil, length-laid}
 use Rattle.alarms.specs.Numbers.{tooDeep}
 use Rattle.moves.specs.Form.{headerSize, recordStart, rowBytes, stamped, whats}
-use Rattle.moves.specs.declared.record.Record.{Record}
-use Rattle.moves.specs.declared.record.Listed.{Listed}
+use Rattle.moves.specs.declared.Record.{Record}
+use Rattle.moves.specs.declared.Listed.{Listed}
 use Rattle.moves.proofs.OneReading.{length-row, length-whats, whats-append, whats-stamped}
 use Rattle.moves.proofs.Rows.{row-on}
 use Rattle.tape.specs.Lines.{lineAt}
-use Rattle.settings.specs.declared.control.Settings.{Settings}
+use Rattle.settings.specs.declared.Settings.{Settings}
 use Rattle.moves.proofs.Room.{room-fits}
 use Rattle.ahead.specs.Ahead.{onto, FoundAt}
 use Rattle.taking.specs.Steps.{Task, taskOf, Step, listedBy, Taken, takenFrom}
@@ -28,14 +28,14 @@ use Rattle.ahead.specs.declared.ProgramAt.{ProgramAt}
 use Rattle.ahead.specs.declared.Frame.{Frame}
 use Rattle.ahead.specs.declared.Onward.{Onward}
 use Rattle.ahead.specs.declared.Onward.the-variants.{On, Call, Jump, Return, End, Stop}
-use Rattle.taking.specs.declared.step.StepDone.{StepDone}
-use Rattle.taking.specs.declared.step.Run.{Run}
-use Rattle.runners.specs.declared.run.Ending.{Ending}
-use Rattle.runners.specs.declared.run.Ending.the-variants.{Returned, Ended, Stopped}
-use Rattle.runners.specs.declared.run.Outcome.{Outcome}
+use Rattle.taking.specs.declared.StepDone.{StepDone}
+use Rattle.taking.specs.declared.Run.{Run}
+use Rattle.runners.specs.declared.Ending.{Ending}
+use Rattle.runners.specs.declared.Ending.the-variants.{Returned, Ended, Stopped}
+use Rattle.runners.specs.declared.Outcome.{Outcome}
 use Rattle.runners.specs.Runs.{Ran, ran, recordsOf, listedOf, pre, goBack, andThen, goOn, onward, blocks, blocksInAll, enough as spare, repeated, called, programRun}
 use Rattle.runners.specs.Meets.{Begins, Took, RanMeets}
-use Rattle.runners.proofs.run.Ending.{the-type}
+use Rattle.runners.proofs.Ending.{the-type}
 
 -- ---- written
 pub took-nil : (t : Task) (b : List ℕ) (r : Run) → Fit t r → Took t b r [] b r

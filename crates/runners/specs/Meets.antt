@@ -6,8 +6,8 @@ use Rattle.ahead.specs.Ahead.{FoundAt}
 use Rattle.ahead.specs.declared.ProgramAt.{ProgramAt}
 use Rattle.taking.specs.Steps.{Task, Step}
 use Rattle.steps.specs.Meets.{Ready, Fit, Wrote}
-use Rattle.taking.specs.declared.step.Run.{Run}
-use Rattle.runners.specs.declared.run.Outcome.{Outcome}
+use Rattle.taking.specs.declared.Run.{Run}
+use Rattle.runners.specs.declared.Outcome.{Outcome}
 use Rattle.runners.specs.Runs.{blocksInAll, Ran, listedOf, called, programRun}
 
 -- what a program asks for that is begun: it is on the tape, and no more blocks are left than a run may begin

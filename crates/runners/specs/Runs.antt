@@ -3,8 +3,8 @@
 use mathlib.Core.List.{List, [], _∷_, _++_}
 use Prim.Native.Nat.{ℕ, zero, suc}
 use Rattle.alarms.specs.Numbers.{tooDeep, tooManyBegun}
-use Rattle.moves.specs.declared.record.Record.{Record}
-use Rattle.moves.specs.declared.record.Listed.{Listed}
+use Rattle.moves.specs.declared.Record.{Record}
+use Rattle.moves.specs.declared.Listed.{Listed}
 use Rattle.tape.specs.Lines.{lineAt}
 use Rattle.ahead.specs.Ahead.{onto}
 use Rattle.taking.specs.Steps.{Task, Step, listedBy, Taken, takenFrom}
@@ -12,10 +12,10 @@ use Rattle.ahead.specs.declared.ProgramAt.{ProgramAt}
 use Rattle.ahead.specs.declared.Frame.{Frame}
 use Rattle.ahead.specs.declared.Onward.{Onward}
 use Rattle.ahead.specs.declared.Onward.the-variants.{On, Call, Jump, Return, End, Stop}
-use Rattle.taking.specs.declared.step.Run.{Run}
-use Rattle.runners.specs.declared.run.Ending.{Ending}
-use Rattle.runners.specs.declared.run.Ending.the-variants.{Returned, Ended, Stopped}
-use Rattle.runners.specs.declared.run.Outcome.{Outcome}
+use Rattle.taking.specs.declared.Run.{Run}
+use Rattle.runners.specs.declared.Ending.{Ending}
+use Rattle.runners.specs.declared.Ending.the-variants.{Returned, Ended, Stopped}
+use Rattle.runners.specs.declared.Outcome.{Outcome}
 
 -- A RUN: how it came to its end, the run there, and its steps, calls and repeats included. A refused block is no step
 pub record Ran : Type 0 where

@@ -5,7 +5,7 @@ use mathlib.Core.List.{List, [], _∷_}
 use Prim.Native.Nat.{ℕ, _%_, _<_}
 use native.Mathlib.Omega.{arith}
 use borrow.Author.Tests.{ne-eqb}
-use Rattle.acts.specs.declared.acting.Kept.the-variants.{Nothing}
+use Rattle.acts.specs.declared.Kept.the-variants.{Nothing}
 use Rattle.answers.specs.declared.Answer.the-variants.{Complete, Alarm}
 use Rattle.paused.specs.declared.Phase.{Phase}
 use Rattle.paused.specs.declared.Phase.the-variants.{Running, Over}

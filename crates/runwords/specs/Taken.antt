@@ -4,15 +4,15 @@ use mathlib.Core.List.{List, [], _∷_}
 use Prim.Native.Nat.{ℕ, zero, suc, _+_, _*_, _%_}
 use lib.Dec.{eqb}
 use lib.ListN.{getD}
-use Rattle.whole.specs.Bytes.{signedOf}
-use Rattle.codes.specs.declared.meaning.Motion.{Motion}
-use Rattle.codes.specs.declared.meaning.Motion.the-variants as motion
-use Rattle.acts.specs.declared.acting.Kept.{Kept}
-use Rattle.acts.specs.declared.acting.Kept.the-variants.{Nothing, Of}
-use Rattle.state.specs.declared.modal.State.{State}
+use Rattle.octets.specs.Bytes.{signedOf}
+use Rattle.codes.specs.declared.Motion.{Motion}
+use Rattle.codes.specs.declared.Motion.the-variants as motion
+use Rattle.acts.specs.declared.Kept.{Kept}
+use Rattle.acts.specs.declared.Kept.the-variants.{Nothing, Of}
+use Rattle.state.specs.declared.State.{State}
 use Rattle.ahead.specs.Ahead.{mostCalls}
 use Rattle.ahead.specs.declared.Frame.{Frame}
-use Rattle.taking.specs.declared.step.Run.{Run}
+use Rattle.taking.specs.declared.Run.{Run}
 use Rattle.answers.specs.declared.Answer.the-variants.{Complete, Alarm}
 use Rattle.resuming.specs.declared.Waiting.{Waiting}
 use Rattle.paused.specs.declared.Phase.{Phase}

@@ -6,12 +6,12 @@ use Prim.Native.Nat.{ℕ, _*_}
 use mir.Syntax.{w32}
 use mir.Val.{SFits, toZ, ofZ}
 use mir.Facts.{toZ-ofZ}
-use Rattle.block.specs.declared.words.Block.{Block}
-use Rattle.axes.specs.declared.axis.Axis.{Axis}
+use Rattle.block.specs.declared.Block.{Block}
+use Rattle.axes.specs.declared.Axis.{Axis}
 use Rattle.block.specs.Slots.{has, dSlot}
-use Rattle.depths.specs.declared.rule.Rule.{Rule}
+use Rattle.depths.specs.declared.Rule.{Rule}
 use Rattle.threading.specs.Bits.{isNominal, ruleOf}
-use Rattle.grooving.specs.declared.groove.Way.{Way}
+use Rattle.grooving.specs.declared.Way.{Way}
 use Rattle.scaling.specs.declared.Sending.{Sending}
 use Rattle.scaling.specs.Scaled.{isFacing, dWord, xAxis, zAxis, turningBy, turningOf, xWay, zWay, grooveOf, xBare, zBare, emptyCuts, threadOf}
 

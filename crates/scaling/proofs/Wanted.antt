@@ -3,10 +3,10 @@
 use mathlib.Core.Path.{_≡_, refl}
 use Prim.Native.Nat.{ℕ}
 use Rattle.block.specs.Slots.{codeIn}
-use Rattle.block.specs.declared.words.Block.{Block}
-use Rattle.state.specs.Target.{targetX, targetZ}
-use Rattle.state.specs.declared.modal.State.{State}
-use Rattle.state.specs.declared.target.Pair.{Pair}
+use Rattle.block.specs.declared.Block.{Block}
+use Rattle.targets.specs.Target.{targetX, targetZ}
+use Rattle.state.specs.declared.State.{State}
+use Rattle.targets.specs.declared.Pair.{Pair}
 use Rattle.scaling.specs.declared.Sending.{Sending}
 use Rattle.scaling.specs.Scaled.{isFacing, turningOf, emptyCuts, threadOf}
 use Rattle.scaling.specs.Wanted.{wanted, threadWanted}

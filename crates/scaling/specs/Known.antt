@@ -1,6 +1,6 @@
 -- What is known of a block that was read. It serves contracts and proofs.
 use Prim.Native.Nat.{ℕ, _<_}
-use Rattle.block.specs.declared.words.Block.{Block}
+use Rattle.block.specs.declared.Block.{Block}
 use Rattle.scaling.specs.Scaled.{dWord}
 
 -- the D words of a block that was read

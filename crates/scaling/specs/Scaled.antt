@@ -10,14 +10,14 @@ use Prim.Native.Nat.{ℕ, _+_, _*_}
 use lib.Dec.{ltb}
 use lib.ListN.{getD}
 use Rattle.block.specs.Slots.{has, xSlot, zSlot, dSlot, codeIn}
-use Rattle.block.specs.declared.words.Block.{Block}
-use Rattle.axes.specs.declared.axis.Axis.{Axis}
-use Rattle.grooving.specs.declared.groove.Groove.{Groove}
-use Rattle.grooving.specs.declared.groove.Way.{Way}
-use Rattle.drilling.specs.declared.bore.Bore.{Bore}
-use Rattle.turning.specs.declared.cycle.Turning.{Turning}
+use Rattle.block.specs.declared.Block.{Block}
+use Rattle.axes.specs.declared.Axis.{Axis}
+use Rattle.grooving.specs.declared.Groove.{Groove}
+use Rattle.grooving.specs.declared.Way.{Way}
+use Rattle.drilling.specs.declared.Bore.{Bore}
+use Rattle.turning.specs.declared.Turning.{Turning}
 use Rattle.threading.specs.Bits.{isNominal, ruleOf}
-use Rattle.threading.specs.declared.thread.Thread.{Thread}
+use Rattle.threading.specs.declared.Thread.{Thread}
 use Rattle.scaling.specs.declared.Sending.{Sending}
 
 -- where the word of an axis stands: that of X or U, and that of Z or W; a block has one of each at most, and the place of the other is 0

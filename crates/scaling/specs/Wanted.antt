@@ -6,14 +6,14 @@ use lib.Dec.{ltb}
 use lib.IntN.{ℤ, pos, natAbs, _+ℤ_, _*ℤ_}
 use lib.ListN.{getD}
 use Rattle.block.specs.Slots.{has, xSlot, zSlot, uSlot, wSlot, iSlot, kSlot, dSlot}
-use Rattle.block.specs.declared.words.Block.{Block}
-use Rattle.state.specs.declared.modal.State.{State}
-use Rattle.state.specs.declared.target.Pair.{Pair}
-use Rattle.axes.specs.declared.axis.Axis.{Axis}
-use Rattle.arcs.specs.declared.arc.Arc.{Arc}
-use Rattle.turning.specs.declared.cycle.Turning.{Turning}
+use Rattle.block.specs.declared.Block.{Block}
+use Rattle.state.specs.declared.State.{State}
+use Rattle.targets.specs.declared.Pair.{Pair}
+use Rattle.axes.specs.declared.Axis.{Axis}
+use Rattle.arcs.specs.declared.Arc.{Arc}
+use Rattle.turning.specs.declared.Turning.{Turning}
 use Rattle.threading.specs.Bits.{isNominal, ruleOf}
-use Rattle.threading.specs.declared.thread.Thread.{Thread}
+use Rattle.threading.specs.declared.Thread.{Thread}
 
 -- the number of a word, and its place among the words of its block; both are 0 where a block that was read has no such word
 abbrev pub wordNumber : Block → ℕ → ℤ

@@ -1,13 +1,13 @@
 // The cycles as their words give them: a cycle's D words and retract that count on a diameter are scaled here, and nowhere else.
 // (01, "G84": "d = 2 x D3 (D3 is per side)"; 02: "the X allowance is 2 x D0"; "G86": "2 x D3", "twice the retract", facing "tool width 2 x D5, overlap 200, depth piece D3, single retract".
 // A thread's depths are per side, and its cycle doubles them.)
-use axes::axis::Axis;
-use block::words::Block;
-use drilling::bore::Bore;
-use grooving::groove::Groove;
-use grooving::groove::Way;
-use threading::thread::Thread;
-use turning::cycle::Turning;
+use axes::Axis;
+use block::Block;
+use drilling::Bore;
+use grooving::Groove;
+use grooving::Way;
+use threading::Thread;
+use turning::Turning;
 ghost use mathlib.Core.Path.{_≡_};
 ghost use Prim.Native.Nat.{_+_, _<_};
 ghost use Rattle.block.specs.Slots.{dSlot, codeIn};
@@ -34,8 +34,8 @@ const OVERLAP: u32 = 100;
 fn is_facing(b: Block) -> bool
     ensures { λ r. ⌜ r ≡ isFacing b ⌝ }
 {
-    let x = wide(b.place[block::words::X]) + wide(b.place[block::words::U]);
-    let z = wide(b.place[block::words::Z]) + wide(b.place[block::words::W]);
+    let x = wide(b.place[block::X]) + wide(b.place[block::U]);
+    let z = wide(b.place[block::Z]) + wide(b.place[block::W]);
     z < x
 }
 
@@ -50,8 +50,8 @@ pub fn d_word(b: Block, index: usize) -> u32
     requires { ⌜ Small b × (index < 10) ⌝ }
     ensures { λ r. ⌜ (r ≡ codeIn b (dSlot index)) × (r < 32_768) ⌝ }
 {
-    let k = block::words::D + index;
-    block::words::code_in(b, k)
+    let k = block::D + index;
+    block::code_in(b, k)
 }
 
 // A G84 block as a cycle.
@@ -95,7 +95,7 @@ fn empty_cuts(b: Block, setting: u32) -> u32
     requires { ⌜ Small b ⌝ }
     ensures { λ r. ⌜ r ≡ emptyCuts b setting ⌝ }
 {
-    if block::words::has(b, block::words::d_slot(4)) {
+    if block::has(b, block::d_slot(4)) {
         return d_word(b, 4);
     }
     setting
@@ -120,8 +120,8 @@ pub fn thread_of(b: Block, s: Sending) -> Thread
     let d6 = d_word(b, 6);
     let d7 = d_word(b, 7);
     let empty = empty_cuts(b, s.empty_cuts);
-    let rule = threading::thread::rule_of(d7);
-    let nominal = threading::thread::is_nominal(d7);
+    let rule = threading::rule_of(d7);
+    let nominal = threading::is_nominal(d7);
     if is_facing(b) {
         return Thread {
             facing: true,

@@ -1,8 +1,8 @@
 // Reading a tape from its first program line to the end of reading, in one pass. The lent table of places is filled in the same pass, and a repeated number is found in it.
 // What comes of it stands in `reading`.
-use block::words::Head;
-use reading::read::Read;
-use reading::read::TapeRead;
+use block::Head;
+use reading::Read;
+use reading::TapeRead;
 ghost use mathlib.Core.Path.{_≡_};
 ghost use Prim.Native.Nat.{_<_, _≤_};
 ghost use lib.ListN.{length};
@@ -32,7 +32,7 @@ fn read_lines(tape: &[u8], first: usize, points: bool, places: &mut [u64]) -> Ta
         let line = tape::line::line_at(tape, p);
         let stop = line.stop;
         let after = line.after;
-        let judged = rules::judge::judge_line(&tape[p..stop]);
+        let judged = showing::judge_line(&tape[p..stop]);
         let alarm = judged.alarm;
         if alarm != 0 {
             return TapeRead {
@@ -58,7 +58,7 @@ fn read_lines(tape: &[u8], first: usize, points: bool, places: &mut [u64]) -> Ta
                 };
             }
             Head::ProgramLine(n) => {
-                if n > settings::control::HIGHEST_PROGRAM {
+                if n > settings::HIGHEST_PROGRAM {
                     return TapeRead {
                         read: Read::Alarm(alarms::BAD_LINE_START, p),
                         count,

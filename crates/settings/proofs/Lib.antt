@@ -1,3 +1,2 @@
 -- The laws of the settings.
 pub mod Right
-pub mod Rows

@@ -9,8 +9,8 @@ use lib.IntN.{ℤ, pos}
 use lib.ListN.{length, getD}
 use borrow.Author.Tests.{ltb-false, eqb-true, not-false}
 use Rattle.whole.specs.Position.{inTable}
-use Rattle.settings.specs.declared.limits.Span.{Span}
-use Rattle.settings.specs.declared.control.Settings.{Settings}
+use Rattle.settings.specs.declared.Span.{Span}
+use Rattle.settings.specs.declared.Settings.{Settings}
 use Rattle.settings.specs.Points.{withPoints}
 use Rattle.settings.specs.Known.{Table, SpanIn, Right}
 use Rattle.settings.specs.Wrong.{tableSize, greatestRetract, greatestEmptyCuts, someOut, tableWrong, spanWrong, settingsWrong}

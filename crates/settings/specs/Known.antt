@@ -6,8 +6,8 @@ use Prim.Native.Nat.{ℕ, _≤_}
 use lib.IntN.{ℤ, pos}
 use lib.ListN.{length, getD}
 use Rattle.whole.specs.Position.{inTable}
-use Rattle.settings.specs.declared.limits.Span.{Span}
-use Rattle.settings.specs.declared.control.Settings.{Settings}
+use Rattle.settings.specs.declared.Span.{Span}
+use Rattle.settings.specs.declared.Settings.{Settings}
 use Rattle.settings.specs.Wrong.{tableSize, greatestRetract, greatestEmptyCuts}
 
 pub record Table (table : List ℤ) : Type 0 where

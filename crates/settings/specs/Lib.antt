@@ -1,7 +1,5 @@
 -- The definitions that the contracts of this crate cite, and those of the crates built on it.
 pub mod Limits
 pub mod Wrong
-pub mod Row
-pub mod Listmoves
 pub mod Points
 pub mod Known

@@ -2,8 +2,8 @@
 use mathlib.Core.Bool.{Bool, _||_}
 use lib.IntN.{ℤ}
 use lib.Signed.{ltZ}
-use Rattle.settings.specs.declared.limits.Span.{Span}
-use Rattle.settings.specs.declared.limits.Limits.{Limits}
+use Rattle.settings.specs.declared.Span.{Span}
+use Rattle.settings.specs.declared.Limits.{Limits}
 
 unfoldable pub outsideSpan : Span → ℤ → Bool
 outsideSpan s v = ltZ v (s .lowest) || ltZ (s .highest) v

@@ -9,8 +9,8 @@ use lib.Signed.{ltZ}
 use lib.ListN.{length}
 use Rattle.whole.specs.Position.{inTable}
 use Rattle.settings.specs.Limits.{outsideSpan}
-use Rattle.settings.specs.declared.limits.Span.{Span}
-use Rattle.settings.specs.declared.control.Settings.{Settings}
+use Rattle.settings.specs.declared.Span.{Span}
+use Rattle.settings.specs.declared.Settings.{Settings}
 
 -- how many numbers the offset table has: two for each of 5 shifts and 99 corrections
 abbrev pub tableSize : ℕ

@@ -7,7 +7,7 @@ use native.Mathlib.Omega.{arith}
 use lib.IntN.{ℤ}
 use lib.ListN.{length, take}
 use Rattle.moves.specs.Form.{recordLimit}
-use Rattle.settings.specs.declared.control.Settings.{Settings}
+use Rattle.settings.specs.declared.Settings.{Settings}
 use Rattle.finding.specs.Finds.{Finds}
 use Rattle.ahead.specs.Ahead.{onto, FoundAt}
 use Rattle.ahead.specs.declared.ProgramAt.{ProgramAt}
@@ -16,10 +16,10 @@ use Rattle.ahead.specs.declared.Onward.{Onward}
 use Rattle.ahead.specs.declared.Onward.the-variants.{On, Jump}
 use Rattle.taking.specs.Steps.{Task, Step, listedBy, takenFrom}
 use Rattle.taking.specs.Hands.{inHand, Able, Falls, Leads, Lawful, OpenMeets}
-use Rattle.taking.specs.declared.step.Run.{Run}
-use Rattle.taking.specs.declared.step.StepDone.{StepDone}
-use Rattle.taking.specs.declared.step.Hand.the-variants.{Nothing}
-use Rattle.taking.specs.declared.step.Opened.{Opened}
+use Rattle.taking.specs.declared.Run.{Run}
+use Rattle.taking.specs.declared.StepDone.{StepDone}
+use Rattle.taking.specs.declared.Hand.the-variants.{Nothing}
+use Rattle.taking.specs.declared.Opened.{Opened}
 use Rattle.runners.specs.Runs.{blocksInAll}
 use Rattle.resuming.specs.declared.Waiting.{Waiting}
 use Rattle.resuming.specs.Remains.{frameAt}

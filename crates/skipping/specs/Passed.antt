@@ -5,11 +5,11 @@ use Prim.Native.Nat.{ℕ, _≤_}
 use lib.IntN.{ℤ}
 use lib.ListN.{take}
 use Rattle.moves.specs.Form.{recordLimit}
-use Rattle.settings.specs.declared.control.Settings.{Settings}
+use Rattle.settings.specs.declared.Settings.{Settings}
 use Rattle.finding.specs.Finds.{Finds}
 use Rattle.ahead.specs.Ahead.{FoundAt}
 use Rattle.ahead.specs.declared.Frame.{Frame}
-use Rattle.taking.specs.declared.step.Run.{Run}
+use Rattle.taking.specs.declared.Run.{Run}
 use Rattle.taking.specs.Hands.{Able, OpenMeets}
 use Rattle.runners.specs.Runs.{blocksInAll}
 use Rattle.resuming.specs.declared.Waiting.{Waiting}

@@ -1,11 +1,11 @@
 // The blocks that are told by their text are passed, up to a step that is not one of these. (02, request 12: the engine that hands out one record at a time.)
 use ahead::Frame;
 use ahead::Onward;
-use settings::control::Settings;
+use settings::Settings;
+use taking::Hand;
+use taking::Opened;
+use taking::Run;
 use taking::quiet::Met;
-use taking::step::Hand;
-use taking::step::Opened;
-use taking::step::Run;
 ghost use Rattle.moves.specs.Form.{recordLimit};
 ghost use Rattle.taking.specs.Hands.{Able};
 ghost use Rattle.skipping.specs.Passed.{PassMeets};

@@ -3,14 +3,14 @@
 use mathlib.Core.Path.{_≡_, refl, sym, ap, _∙_}
 use mathlib.Core.Bool.{Bool, true, false}
 use mathlib.Core.List.{List, [], _∷_, _++_}
-use Rattle.moves.specs.declared.record.Record.{Record}
+use Rattle.moves.specs.declared.Record.{Record}
 use Rattle.writing.specs.Writes.{oneIf}
 use Rattle.stages.specs.Cursor.{singleOf, behindDeed, fromCentre, fromCoolant, fromSpindle, fromTool, fromSpeed, behindAt, restAt, restFrom, deedRow, restOf, stageBehind, Planned, Follows}
-use Rattle.stages.specs.declared.cursor.Stage.{Stage}
-use Rattle.stages.specs.declared.cursor.Stage.the-variants.{Speed, Tool, Spindle, Coolant, Centre, Stop, Over}
-use Rattle.stages.specs.declared.cursor.Due.{Due}
-use Rattle.stages.specs.declared.cursor.Due.the-variants.{Single}
-use Rattle.stages.specs.declared.cursor.Plan.{Plan}
+use Rattle.stages.specs.declared.Stage.{Stage}
+use Rattle.stages.specs.declared.Stage.the-variants.{Speed, Tool, Spindle, Coolant, Centre, Stop, Over}
+use Rattle.stages.specs.declared.Due.{Due}
+use Rattle.stages.specs.declared.Due.the-variants.{Single}
+use Rattle.stages.specs.declared.Plan.{Plan}
 
 -- ---- a record where it is wanted, before a row
 pub word-due : {t : Bool} (r : Record) (l : List Record) → t ≡ true → oneIf t r ++ l ≡ r ∷ l

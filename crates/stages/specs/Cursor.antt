@@ -3,17 +3,17 @@ use mathlib.Core.Path.{_≡_}
 use mathlib.Core.Bool.{Bool, true, false, cond, not, _&&_}
 use mathlib.Core.List.{List, [], _∷_, _++_}
 use Rattle.moves.specs.Kinds.{tool, miscellaneous, speed}
-use Rattle.moves.specs.declared.record.Record.{Record}
-use Rattle.turning.specs.Cursor as turn
+use Rattle.moves.specs.declared.Record.{Record}
+use Rattle.passes.specs.Cursor as turn
 use Rattle.threads.specs.Cursor as thread
 use Rattle.plunges.specs.Cursor as groove
 use Rattle.bores.specs.Cursor as drill
 use Rattle.writing.specs.Writes.{oneIf}
-use Rattle.stages.specs.declared.cursor.Stage.{Stage}
-use Rattle.stages.specs.declared.cursor.Stage.the-variants.{Speed, Tool, Spindle, Coolant, Deed, Centre, Stop, Over}
-use Rattle.stages.specs.declared.cursor.Due.{Due}
-use Rattle.stages.specs.declared.cursor.Due.the-variants.{Turning, Threading, Grooving, Drilling, Single}
-use Rattle.stages.specs.declared.cursor.Plan.{Plan}
+use Rattle.stages.specs.declared.Stage.{Stage}
+use Rattle.stages.specs.declared.Stage.the-variants.{Speed, Tool, Spindle, Coolant, Deed, Centre, Stop, Over}
+use Rattle.stages.specs.declared.Due.{Due}
+use Rattle.stages.specs.declared.Due.the-variants.{Turning, Threading, Grooving, Drilling, Single}
+use Rattle.stages.specs.declared.Plan.{Plan}
 
 -- ---- the records that are left
 -- the records that are no cycle's; where none is due, no one asks

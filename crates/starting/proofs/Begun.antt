@@ -6,14 +6,14 @@ use Prim.Native.Nat.{ℕ}
 use lib.IntN.{pos}
 use lib.ListN.{length}
 use Rattle.alarms.specs.Numbers.{programMissing}
-use Rattle.settings.specs.declared.control.Settings.{Settings}
+use Rattle.settings.specs.declared.Settings.{Settings}
 use Rattle.places.specs.declared.Found.{Found}
 use Rattle.places.specs.declared.Found.the-variants.{At, Nowhere}
 use Rattle.state.specs.Modal.{atStart}
-use Rattle.state.specs.declared.modal.State.{State}
+use Rattle.state.specs.declared.State.{State}
 use Rattle.ahead.specs.Ahead.{mostCalls}
 use Rattle.ahead.specs.declared.Frame.{Frame}
-use Rattle.taking.specs.declared.step.Run.{Run}
+use Rattle.taking.specs.declared.Run.{Run}
 use Rattle.answers.specs.Answers.{startOf}
 use Rattle.answers.specs.declared.Answer.the-variants.{Alarm}
 use Rattle.interpreter.specs.Answers.{mainAt}

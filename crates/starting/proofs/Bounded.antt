@@ -13,12 +13,12 @@ use Rattle.alarms.specs.Numbers as alarms
 use Rattle.tape.specs.Lines.{seekFrom, opensTape, lineAt, Text, textAt, linesUp, lines}
 use Rattle.places.specs.Places.{lineKey, blockKey, entryOf, inserted}
 use Rattle.places.proofs.Rows.{inserted-length}
-use Rattle.block.specs.declared.words.Head.{Head}
-use Rattle.block.specs.declared.words.Head.the-variants.{Blank, ProgramLine, BlockLine, Other}
-use Rattle.rules.specs.Rules.{judged}
+use Rattle.block.specs.declared.Head.{Head}
+use Rattle.block.specs.declared.Head.the-variants.{Blank, ProgramLine, BlockLine, Other}
+use Rattle.showing.specs.Showing.{judged}
 use Rattle.reading.specs.Reading.{History, nothingRead, noted, endsWith, placeOf}
 use Rattle.reading.specs.Filling.{Filled, nothingFilled, filed, roomAlarm, alarmWith, Readings, readLinesWith, readWith}
-use Rattle.reading.specs.declared.read.Read.the-variants as read
+use Rattle.reading.specs.declared.Read.the-variants as read
 use Rattle.reading.proofs.Tabled.{none-room}
 use Rattle.ahead.proofs.Places.{AllIn, lines-in}
 

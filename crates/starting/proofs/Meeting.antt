@@ -14,7 +14,7 @@ use Rattle.alarms.specs.Numbers.{badSettings, tapeTooLong, programMissing}
 use Rattle.moves.specs.Form.{recordLimit, roomOf}
 use Rattle.tape.specs.Lines.{lines}
 use Rattle.tape.proofs.Lining.{line-in}
-use Rattle.settings.specs.declared.control.Settings.{Settings}
+use Rattle.settings.specs.declared.Settings.{Settings}
 use Rattle.settings.specs.Points.{withPoints}
 use Rattle.settings.specs.Wrong.{settingsWrong}
 use Rattle.settings.proofs.Right.{right}
@@ -25,15 +25,15 @@ use Rattle.finding.specs.Finding.{findProgram}
 use Rattle.finding.specs.Finds.{Finds}
 use Rattle.reading.specs.Reading.{longestTape, placeOf}
 use Rattle.reading.specs.Filling.{Readings, told, readWith, placesBehind}
-use Rattle.reading.specs.declared.read.TapeRead.{TapeRead}
-use Rattle.reading.specs.declared.read.Read.{Read}
-use Rattle.reading.specs.declared.read.Read.the-variants as read
-use Rattle.state.proofs.Ranges.{start-sound}
+use Rattle.reading.specs.declared.TapeRead.{TapeRead}
+use Rattle.reading.specs.declared.Read.{Read}
+use Rattle.reading.specs.declared.Read.the-variants as read
+use Rattle.targets.proofs.Ranges.{start-sound}
 use Rattle.ahead.specs.Ahead.{mostCalls}
 use Rattle.ahead.specs.declared.Frame.{Frame}
 use Rattle.ahead.proofs.Places.{found-within}
 use Rattle.taking.specs.Steps.{Task, taskIn}
-use Rattle.taking.specs.declared.step.Run.{Run}
+use Rattle.taking.specs.declared.Run.{Run}
 use Rattle.runners.specs.Runs.{Ran, blocksInAll, listedOf}
 use Rattle.answers.specs.Answers.{startOf}
 use Rattle.interpreter.specs.Answers.{Result, refused, resultOf, mainAt, mainBy, mainRun, readThen, interpretationBy, interpretation, rowOf, placesOf}

@@ -6,10 +6,10 @@ use answers::Answer;
 use paused::Going;
 use paused::Phase;
 use places::Found;
-use reading::read::Read;
+use reading::Read;
 use resuming::Waiting;
-use settings::control::Settings;
-use taking::step::Run;
+use settings::Settings;
+use taking::Run;
 ghost use mathlib.Core.Path.{_≡_};
 ghost use Prim.Native.Nat.{_≤_};
 ghost use lib.ListN.{length, take};
@@ -48,7 +48,7 @@ pub fn refused(alarm: u8, place: usize) -> Going
         at: 0,
     };
     let run = Run {
-        state: state::modal::at_start(0, 0),
+        state: state::at_start(0, 0),
         blocks_left: 0,
         count: 0,
     };
@@ -90,10 +90,10 @@ pub fn start(tape: &[u8], table: &[i32], set: Settings, places: &mut [u64]) -> G
     ensures result { λ r. ⌜ StartMeets (now (tape .entry)) (now (table .entry)) set (now (places .entry)) r ⌝ }
     ensures filled { λ _. ⌜ now (places .exit) ≡ placesOf (now (tape .entry)) (now (table .entry)) set (now (places .entry)) roomy ⌝ }
 {
-    if settings::control::settings_wrong(table, set) {
+    if settings::settings_wrong(table, set) {
         return refused(alarms::BAD_SETTINGS, 0);
     }
-    if tape.len() > reading::read::LONGEST_TAPE {
+    if tape.len() > reading::LONGEST_TAPE {
         return refused(alarms::TAPE_TOO_LONG, 0);
     }
     let told = scanning::read_tape(tape, set.points, places);

@@ -11,10 +11,10 @@ use Rattle.whole.specs.Signed.{minus}
 use Rattle.whole.specs.declared.position.Placed.{Placed}
 use Rattle.whole.specs.declared.position.Placed.the-variants.{At, Outside}
 use Rattle.acts.specs.Acting.{keep}
-use Rattle.acts.specs.declared.acting.Kept.the-variants.{Nothing}
+use Rattle.acts.specs.declared.Kept.the-variants.{Nothing}
 use Rattle.block.specs.Slots.{wSlot}
-use Rattle.block.specs.declared.words.Block.{Block}
-use Rattle.state.specs.declared.modal.State.{State}
+use Rattle.block.specs.declared.Block.{Block}
+use Rattle.state.specs.declared.State.{State}
 
 -- the position that was placed, else the present one; a lawful word is never sent outside
 abbrev pub placeOr : Placed → ℤ → ℤ

@@ -5,11 +5,11 @@ use mathlib.Core.Bool.{Bool, true, false, cond, _||_}
 use Prim.Native.Nat.{ℕ, _%_}
 use lib.IntN.{ℤ}
 use Rattle.acts.specs.Acting.{keep, motionBy, shiftBy, cuttingBy, revolutionBy}
-use Rattle.acts.specs.declared.acting.Kept.{Kept}
-use Rattle.acts.specs.declared.acting.Kept.the-variants.{Nothing}
+use Rattle.acts.specs.declared.Kept.{Kept}
+use Rattle.acts.specs.declared.Kept.the-variants.{Nothing}
 use Rattle.block.specs.Slots.{fSlot, tSlot, motionSlot, speedModeSlot, feedModeSlot, shift3Slot, shift5Slot, has, codeIn, gIn}
-use Rattle.block.specs.declared.words.Block.{Block}
-use Rattle.state.specs.declared.modal.State.{State}
+use Rattle.block.specs.declared.Block.{Block}
+use Rattle.state.specs.declared.State.{State}
 
 -- "At the start: no motion function, G97, G95, G53, G56, tool correction 0, no F." No G00 is due
 abbrev pub atStart : ℤ → ℤ → State

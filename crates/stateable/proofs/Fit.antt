@@ -7,12 +7,12 @@ use native.Mathlib.Omega.{arith}
 use lib.Dec.{leb}
 use Rattle.telling.proofs.Tells.{Tells, tells-at-most}
 use Rattle.whole.specs.Position.{inTable}
-use Rattle.codes.specs.declared.meaning.Motion.{Motion}
-use Rattle.codes.specs.declared.meaning.Motion.the-variants as motion
-use Rattle.acts.specs.declared.acting.Kept.{Kept}
-use Rattle.acts.specs.declared.acting.Kept.the-variants.{Nothing, Of}
+use Rattle.codes.specs.declared.Motion.{Motion}
+use Rattle.codes.specs.declared.Motion.the-variants as motion
+use Rattle.acts.specs.declared.Kept.{Kept}
+use Rattle.acts.specs.declared.Kept.the-variants.{Nothing, Of}
 use Rattle.acts.specs.Acting.{keep}
-use Rattle.state.specs.declared.modal.State.{State}
+use Rattle.state.specs.declared.State.{State}
 use Rattle.state.specs.Known.{Numbers, Sound}
 
 -- ---- the motion

@@ -1,12 +1,12 @@
 // Whether a machine's state that comes back from a caller is one that a block can run on: a caller may have changed it.
 // Every state from which a run starts, or which a block leaves behind, passes.
-use acts::acting::Kept;
-use state::modal::State;
+use acts::Kept;
+use state::State;
 use whole::position::Position;
 ghost use mathlib.Core.Path.{_≡_};
 ghost use mathlib.Core.Bool.{true};
 ghost use Rattle.acts.specs.Acting.{keep};
-ghost use Rattle.acts.specs.declared.acting.Kept.the-variants.{Nothing};
+ghost use Rattle.acts.specs.declared.Kept.the-variants.{Nothing};
 ghost use Rattle.state.specs.Known.{Numbers, Sound};
 
 // The shifts and the tool corrections that the table has.
@@ -19,7 +19,7 @@ fn is_kept(motion: Kept) -> bool
     ensures sound { λ r. ⌜ (r ≡ true → keep motion Nothing ≡ motion) ⌝ }
     ensures all { λ r. ⌜ (keep motion Nothing ≡ motion → r ≡ true) ⌝ }
 {
-    let behind = acts::acting::keep_of(motion, Kept::Nothing);
+    let behind = acts::keep_of(motion, Kept::Nothing);
     match motion {
         Kept::Nothing => true,
         Kept::Of(_) => match behind {

@@ -8,8 +8,8 @@ use native.Mathlib.Omega.{arith}
 use lib.ListN.{length, take, drop, length-drop, drop-of-length-le}
 use lib.Seq.{take-at, drop-at, drop-drop, take-take, take-add, take-append-le, length-take-le}
 use borrow.Rule.Slice.PartMut.{putMid}
-use Rattle.whole.specs.Bytes.{laid}
-use Rattle.whole.proofs.Laying.{lent, length-laid}
+use Rattle.octets.specs.Bytes.{laid}
+use Rattle.octets.proofs.Laying.{lent, length-laid}
 use Rattle.cyclewords.specs.Sizes.{dueWords}
 use Rattle.planwords.specs.Plan.{planWords}
 use Rattle.runwords.specs.Taken.{goingWords}

@@ -7,18 +7,18 @@ use Prim.Native.Nat.{ℕ, _+_, _-_}
 use native.Mathlib.Omega.{arith}
 use lib.ListN.{length}
 use borrow.Rule.Slice.PartMut.{putMid}
-use Rattle.whole.specs.Bytes.{laid}
-use Rattle.whole.proofs.Laying.{length-laid}
-use Rattle.moves.specs.declared.record.Origin.{Origin}
-use Rattle.stages.specs.declared.cursor.Due.{Due}
-use Rattle.stages.specs.declared.cursor.Plan.{Plan}
+use Rattle.octets.specs.Bytes.{laid}
+use Rattle.octets.proofs.Laying.{length-laid}
+use Rattle.moves.specs.declared.Origin.{Origin}
+use Rattle.stages.specs.declared.Due.{Due}
+use Rattle.stages.specs.declared.Plan.{Plan}
 use Rattle.resumable.specs.Kept.{kept, withDeed}
 use Rattle.cyclewords.specs.Sizes.{dueWords}
 use Rattle.handwords.specs.Due.{isEmpty, slotOf, dueBy}
 use Rattle.planwords.specs.Plan.{planWords, planOf, originOf}
 use Rattle.runwords.specs.Taken.{goingWords, goingOf}
-use Rattle.taking.specs.declared.step.Hand.{Hand}
-use Rattle.taking.specs.declared.step.Hand.the-variants.{Nothing, Block}
+use Rattle.taking.specs.declared.Hand.{Hand}
+use Rattle.taking.specs.declared.Hand.the-variants.{Nothing, Block}
 use Rattle.paused.specs.declared.Going.{Going}
 use Rattle.statewords.specs.State.{stateWords, dueIn, planIn, goingIn, isEmptyIn, handFrom, handIn, runIn, handKept, PutMeets}
 use Rattle.statewords.proofs.Parts.{Parts, due-laid, plan-laid, going-laid, going-lent}

@@ -4,16 +4,16 @@ use mathlib.Core.Bool.{Bool, cond}
 use mathlib.Core.List.{List}
 use Prim.Native.Nat.{ℕ, _+_}
 use lib.ListN.{length, take, drop}
-use Rattle.moves.specs.declared.record.Origin.{Origin}
-use Rattle.stages.specs.declared.cursor.Due.{Due}
-use Rattle.stages.specs.declared.cursor.Plan.{Plan}
+use Rattle.moves.specs.declared.Origin.{Origin}
+use Rattle.stages.specs.declared.Due.{Due}
+use Rattle.stages.specs.declared.Plan.{Plan}
 use Rattle.resumable.specs.Kept.{kept, withDeed}
 use Rattle.cyclewords.specs.Sizes.{dueWords}
 use Rattle.handwords.specs.Due.{isEmpty, slotOf, dueBy}
 use Rattle.planwords.specs.Plan.{planWords, planOf, originOf}
 use Rattle.runwords.specs.Taken.{goingWords, goingOf}
-use Rattle.taking.specs.declared.step.Hand.{Hand}
-use Rattle.taking.specs.declared.step.Hand.the-variants.{Nothing, Block}
+use Rattle.taking.specs.declared.Hand.{Hand}
+use Rattle.taking.specs.declared.Hand.the-variants.{Nothing, Block}
 use Rattle.paused.specs.declared.Going.{Going}
 
 abbrev pub stateWords : ℕ

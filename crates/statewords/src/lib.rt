@@ -1,14 +1,14 @@
 // THE STATE OF AN ENGINE IN WORDS that the caller lends, in three parts: what is due of the present block, the block's plan, and where the run goes on behind it. (02, request 12.)
 // Each part is put by itself, so that an ask for the next record of a block touches the first alone.
 use cyclewords::DUE_WORDS;
-use moves::record::Origin;
+use moves::Origin;
 use paused::Going;
 use planwords::PLAN_WORDS;
-use stages::cursor::Due;
-use stages::cursor::Plan;
+use stages::Due;
+use stages::Plan;
 ghost use mathlib.Core.Path.{_≡_};
 ghost use lib.ListN.{length};
-ghost use Rattle.taking.specs.declared.step.Hand.the-variants.{Nothing};
+ghost use Rattle.taking.specs.declared.Hand.the-variants.{Nothing};
 ghost use Rattle.resumable.specs.Kept.{kept};
 ghost use Rattle.runwords.specs.Laid.{Small};
 ghost use Rattle.statewords.specs.State.{stateWords, handIn, runIn, PutMeets, handFrom, handKept, planIn};
@@ -50,5 +50,5 @@ pub fn put_run(state: &mut [u32], g: Going)
     ensures run { λ _. ⌜ runIn (now (state .exit)) ≡ g ⌝ }
     ensures hand { λ _. ⌜ (handIn (now (state .exit)) ≡ handIn (now (state .entry))) × (length (now (state .exit)) ≡ stateWords) ⌝ }
 {
-    runwords::laying::put_going(&mut state[GOING..], g);
+    runlaid::put_going(&mut state[GOING..], g);
 }

@@ -6,7 +6,7 @@ use Prim.Native.Nat.{ℕ, _-_, _≤_, _<_}
 use native.Mathlib.Omega.{arith}
 use lib.IntN.{ℤ}
 use lib.ListN.{length}
-use Rattle.settings.specs.declared.control.Settings.{Settings}
+use Rattle.settings.specs.declared.Settings.{Settings}
 use Rattle.state.specs.Known.{Sound}
 use Rattle.ahead.specs.Ahead.{mostCalls, FoundAt}
 use Rattle.ahead.specs.declared.ProgramAt.{ProgramAt}
@@ -16,10 +16,10 @@ use Rattle.ahead.proofs.Places.{found-within}
 use Rattle.taking.specs.Steps.{Task, Step, listedBy, takenFrom}
 use Rattle.taking.specs.Hands as hands
 use Rattle.taking.specs.Hands.{inHand, Falls, Stays, Leads}
-use Rattle.taking.specs.declared.step.Run.{Run}
-use Rattle.taking.specs.declared.step.StepDone.{StepDone}
-use Rattle.taking.specs.declared.step.Hand.{Hand}
-use Rattle.taking.specs.declared.step.Hand.the-variants.{Nothing}
+use Rattle.taking.specs.declared.Run.{Run}
+use Rattle.taking.specs.declared.StepDone.{StepDone}
+use Rattle.taking.specs.declared.Hand.{Hand}
+use Rattle.taking.specs.declared.Hand.the-variants.{Nothing}
 use Rattle.answers.specs.Answers.{placeOf}
 use Rattle.resuming.specs.declared.Waiting.{Waiting}
 use Rattle.resuming.specs.Handed.{Made, Left}

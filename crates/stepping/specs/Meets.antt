@@ -5,11 +5,11 @@ use Prim.Native.Nat.{ℕ, _≤_, _<_}
 use lib.IntN.{ℤ}
 use lib.ListN.{length}
 use Rattle.settings.specs.Known.{Table, InRange}
-use Rattle.settings.specs.declared.control.Settings.{Settings}
+use Rattle.settings.specs.declared.Settings.{Settings}
 use Rattle.state.specs.Known.{Sound}
-use Rattle.taking.specs.declared.step.Run.{Run}
-use Rattle.taking.specs.declared.step.Hand.{Hand}
-use Rattle.taking.specs.declared.step.Hand.the-variants.{Nothing, Block}
+use Rattle.taking.specs.declared.Run.{Run}
+use Rattle.taking.specs.declared.Hand.{Hand}
+use Rattle.taking.specs.declared.Hand.the-variants.{Nothing, Block}
 use Rattle.taking.specs.Hands.{inHand}
 use Rattle.holding.specs.Held.{Held}
 use Rattle.paused.specs.Kept.{Fitting, Kept}

@@ -3,10 +3,10 @@ use mathlib.Core.Path.{_≡_}
 use mathlib.Core.List.{List, []}
 use Prim.Native.Nat.{ℕ, _+_, _≤_, _<_}
 use lib.ListN.{length, take}
-use Rattle.whole.specs.Bytes.{laid}
+use Rattle.octets.specs.Bytes.{laid}
 use Rattle.moves.specs.Form.{headerSize, recordStart, rowBytes}
-use Rattle.moves.specs.declared.record.Record.{Record}
-use Rattle.moves.specs.declared.record.Listed.{Listed}
+use Rattle.moves.specs.declared.Record.{Record}
+use Rattle.moves.specs.declared.Listed.{Listed}
 use Rattle.settings.specs.Known.{Table, InRange}
 use Rattle.finding.specs.Finds.{Finds}
 use Rattle.state.specs.Known.{Sound}
@@ -14,8 +14,8 @@ use Rattle.ahead.specs.Ahead.{FoundAt}
 use Rattle.ahead.specs.declared.Frame.{Frame}
 use Rattle.ahead.specs.declared.Onward.{Onward}
 use Rattle.ahead.specs.declared.Onward.the-variants.{On, Call, Jump, Return, End, Stop}
-use Rattle.taking.specs.declared.step.Run.{Run}
-use Rattle.taking.specs.declared.step.StepDone.{StepDone}
+use Rattle.taking.specs.declared.Run.{Run}
+use Rattle.taking.specs.declared.StepDone.{StepDone}
 use Rattle.taking.specs.Steps.{Task, listedBy, takenFrom}
 
 -- ---- before it

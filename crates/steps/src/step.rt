@@ -1,11 +1,11 @@
 // The next block of a program, done, and its records written.
 use ahead::Frame;
 use finding::BlockAt;
-use settings::control::Settings;
+use settings::Settings;
+use taking::Hand;
+use taking::Run;
+use taking::StepDone;
 use taking::quiet::Met;
-use taking::step::Hand;
-use taking::step::Run;
-use taking::step::StepDone;
 ghost use lib.ListN.{length};
 ghost use Rattle.taking.specs.Steps.{taskOf};
 ghost use Rattle.taking.specs.Meets.{Next};

@@ -43,7 +43,7 @@ fn repeats(line: &[u8]) -> u32 {
     }
     let number = numbers::read_number(&line[1..], NumberForm::FourDigits);
     match number {
-        Number::Value(n, _) => whole::signed::magnitude(n),
+        Number::Value(n, _) => whole::magnitude(n),
         Number::Bad => 0,
     }
 }

@@ -14,31 +14,31 @@ pub struct Start {
     pub at: usize,
 }
 
-const TABLE: usize = settings::control::TABLE_SIZE;
+const TABLE: usize = settings::TABLE_SIZE;
 
-pub const MAIN: usize = TABLE + settings::row::MAIN;
+pub const MAIN: usize = TABLE + panel::MAIN;
 
-pub const LOWEST: usize = TABLE + settings::row::LOWEST_SUBROUTINE;
+pub const LOWEST: usize = TABLE + panel::LOWEST_SUBROUTINE;
 
-pub const RETRACT: usize = TABLE + settings::row::RETRACT;
+pub const RETRACT: usize = TABLE + panel::RETRACT;
 
-pub const X: usize = TABLE + settings::row::START_X;
+pub const X: usize = TABLE + panel::START_X;
 
-pub const Z: usize = TABLE + settings::row::START_Z;
+pub const Z: usize = TABLE + panel::START_Z;
 
-pub const X_LOW: usize = TABLE + settings::row::X_LOWEST;
+pub const X_LOW: usize = TABLE + panel::X_LOWEST;
 
-pub const X_HIGH: usize = TABLE + settings::row::X_HIGHEST;
+pub const X_HIGH: usize = TABLE + panel::X_HIGHEST;
 
-pub const Z_LOW: usize = TABLE + settings::row::Z_LOWEST;
+pub const Z_LOW: usize = TABLE + panel::Z_LOWEST;
 
-pub const Z_HIGH: usize = TABLE + settings::row::Z_HIGHEST;
+pub const Z_HIGH: usize = TABLE + panel::Z_HIGHEST;
 
-pub const EMPTY: usize = TABLE + settings::row::EMPTY_CUTS;
+pub const EMPTY: usize = TABLE + panel::EMPTY_CUTS;
 
-pub const POINTS: usize = TABLE + settings::row::POINTS;
+pub const POINTS: usize = TABLE + panel::POINTS;
 
-const NUMBERS: usize = TABLE + settings::row::COUNT;
+const NUMBERS: usize = TABLE + panel::COUNT;
 
 const BYTES: usize = NUMBERS + 1;
 
@@ -82,21 +82,21 @@ fn at_most(n: u32, most: usize) -> usize
 pub fn numbers_of(given: &[i32; ALL]) -> usize
     ensures { λ r. ⌜ r ≤ tableSize ⌝ }
 {
-    at_most(whole::signed::magnitude(given[NUMBERS]), TABLE)
+    at_most(whole::magnitude(given[NUMBERS]), TABLE)
 }
 
 // How many bytes the buffer has.
 pub fn bytes_of(given: &[i32; ALL]) -> usize
     ensures { λ r. ⌜ r ≤ 65536 ⌝ }
 {
-    at_most(whole::signed::magnitude(given[BYTES]), 65_536)
+    at_most(whole::magnitude(given[BYTES]), 65_536)
 }
 
 // How many entries the table of places has.
 pub fn held_of(given: &[i32; ALL]) -> usize
     ensures { λ r. ⌜ r ≤ 21845 ⌝ }
 {
-    at_most(whole::signed::magnitude(given[HELD]), 21_845)
+    at_most(whole::magnitude(given[HELD]), 21_845)
 }
 
 // The place of a number of an axis by the second letter of its word: its start, its lowest limit or its highest.
@@ -133,7 +133,7 @@ fn table_place(digits: &[u8]) -> usize {
     let Number::Value(n, _) = number else {
         return ALL;
     };
-    let k = whole::signed::magnitude(n) as usize;
+    let k = whole::magnitude(n) as usize;
     if k == 0 {
         return ALL;
     }

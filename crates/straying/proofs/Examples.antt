@@ -5,12 +5,12 @@ use mathlib.Core.Bool.{Bool, true, false, true≢false}
 use native.Mathlib.Omega.{arith}
 use lib.IntN.{ℤ, pos}
 use Rattle.whole.specs.Signed.{minus}
-use Rattle.settings.specs.declared.limits.Limits.{Limits}
+use Rattle.settings.specs.declared.Limits.{Limits}
 use Rattle.settings.specs.Limits.{outsideSpan, outside}
 use Rattle.moves.specs.Kinds.{arc, centre}
 use Rattle.arrows.specs.Arrows.{square, cross, dot, ahead, exceeds, rootUpTo, rootFrom}
-use Rattle.arrows.specs.declared.arrow.Spot.{Spot}
-use Rattle.arcs.specs.declared.arc.Arc.{Arc}
+use Rattle.arrows.specs.declared.Spot.{Spot}
+use Rattle.arcs.specs.declared.Arc.{Arc}
 use Rattle.sweeps.specs.declared.Sweep.the-variants.{Full, Nothing, Short, Long}
 use Rattle.sweeps.specs.declared.Quadrant.the-variants.{East, North, West, South}
 use Rattle.arcs.specs.Arcs.{arcOf, endRecord, centreRecord, startOf, endOf, radius2, uneven}

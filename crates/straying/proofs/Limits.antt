@@ -9,12 +9,12 @@ use Rattle.whole.proofs.Integers.{whole, lt-false}
 use Rattle.whole.proofs.Positions.{in-range, in-table}
 use Rattle.settings.specs.Known.{SpanIn}
 use Rattle.settings.specs.Limits.{outside, outsideSpan}
-use Rattle.settings.specs.declared.limits.Limits.{Limits}
-use Rattle.settings.specs.declared.limits.Span.{Span}
+use Rattle.settings.specs.declared.Limits.{Limits}
+use Rattle.settings.specs.declared.Span.{Span}
 use Rattle.axes.proofs.Places.{neither}
 use Rattle.axes.proofs.Reaching.{inside}
 use Rattle.arrows.specs.Known.{Sized}
-use Rattle.arcs.specs.declared.arc.Arc.{Arc}
+use Rattle.arcs.specs.declared.Arc.{Arc}
 use Rattle.arcs.specs.Arcs.{radius2}
 use Rattle.arcs.specs.Known.{endReach, LimitsInReach}
 use Rattle.arcs.proofs.Sizes.{bounded, sized}

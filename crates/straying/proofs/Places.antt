@@ -9,9 +9,9 @@ use lib.IntN.{ℤ, pos, _*ℤ_}
 use lib.Signed.{leZ}
 use Rattle.whole.proofs.Integers.{whole, eq-out, up-mul, down-mul, up-neg, down-neg}
 use Rattle.axes.proofs.Places.{neither}
-use Rattle.arrows.specs.declared.arrow.Arrow.{Arrow}
+use Rattle.arrows.specs.declared.Arrow.{Arrow}
 use Rattle.arrows.specs.Arrows.{arrow, square, cross, dot, ahead, exceeds}
-use Rattle.arcs.specs.declared.arc.Arc.{Arc}
+use Rattle.arcs.specs.declared.Arc.{Arc}
 use Rattle.arcs.specs.Arcs.{startOf, endOf, radius2, uneven}
 use Rattle.sweeps.specs.Sweeps.{isFull}
 use Rattle.straying.specs.Points.{towards, stage, noLater, OnArc}

@@ -6,7 +6,7 @@ use Prim.Native.Nat.{ℕ, _*_, _<_}
 use native.Mathlib.Omega.{arith}
 use lib.IntN.{ℤ, pos, _+ℤ_, _*ℤ_}
 use Rattle.whole.proofs.Integers.{whole, add-in, up-neg, down-neg}
-use Rattle.arrows.specs.declared.arrow.Arrow.{Arrow}
+use Rattle.arrows.specs.declared.Arrow.{Arrow}
 use Rattle.arrows.specs.Arrows.{square, cross, dot}
 use Rattle.sweeps.specs.declared.Quadrant.{Quadrant}
 use Rattle.arrows.proofs.Signs.{Neg, Pos, NonNeg, NonPos, Sign, minus, nought, plus, sign, zero-l, zero-r, pp<, pn, pn<, np<}

@@ -9,13 +9,13 @@ use borrow.Author.Tests.{eqb-true}
 use lib.Dec.{eqb}
 use lib.IntN.{ℤ}
 use lib.ListN.{length}
-use Rattle.settings.specs.declared.limits.Limits.{Limits}
-use Rattle.moves.specs.declared.record.Record.{Record}
+use Rattle.settings.specs.declared.Limits.{Limits}
+use Rattle.moves.specs.declared.Record.{Record}
 use Rattle.moves.specs.Kinds.{clockwiseKind, counterclockwiseKind, centreKind, isArc, isCentre, inTurn}
 use Rattle.moves.specs.Last.{after, lastOf}
 use Rattle.moves.proofs.Last.{Moves, after-move}
 use Rattle.axes.proofs.Every.{Every}
-use Rattle.arcs.specs.declared.arc.Arc.{Arc}
+use Rattle.arcs.specs.declared.Arc.{Arc}
 use Rattle.arcs.specs.Arcs.{endRecord, centreRecord, arcRecords}
 use Rattle.straying.specs.Points.{Passed}
 use Rattle.arcs.specs.Told.{toldBy, paired}

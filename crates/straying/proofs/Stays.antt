@@ -11,11 +11,11 @@ use lib.IntN.{ℤ, pos, negsuc, negℤ, natAbs, _+ℤ_, _-ℤ_, _*ℤ_}
 use lib.Signed.{ltZ, leZ, _≤ℤ_}
 use borrow.Author.Tests.{leb-true}
 use Rattle.whole.proofs.Integers.{whole, up, sub-in, up-neg, down-neg, le-in, le-true}
-use Rattle.settings.specs.declared.limits.Limits.{Limits}
+use Rattle.settings.specs.declared.Limits.{Limits}
 use Rattle.settings.specs.Limits.{outsideSpan, outside}
 use Rattle.axes.proofs.Places.{neither}
-use Rattle.arcs.specs.declared.arc.Arc.{Arc}
-use Rattle.arrows.specs.declared.arrow.Arrow.{Arrow}
+use Rattle.arcs.specs.declared.Arc.{Arc}
+use Rattle.arrows.specs.declared.Arrow.{Arrow}
 use Rattle.arrows.specs.Arrows.{arrow, square, ahead, tolerance, slack, exceeds, rootUpTo, rootFrom}
 use Rattle.sweeps.specs.declared.Sweep.{Sweep}
 use Rattle.sweeps.specs.declared.Sweep.the-variants.{Full, Nothing, Short, Long}

@@ -10,8 +10,8 @@ use lib.Dec.{ltb, eqb}
 use lib.IntN.{ℤ, pos, negsuc, negℤ, natAbs, _+ℤ_, _*ℤ_}
 use lib.Signed.{ltZ, leZ}
 use Rattle.whole.proofs.Integers.{whole, add-in, up-neg, down-neg}
-use Rattle.arcs.specs.declared.arc.Arc.{Arc}
-use Rattle.arrows.specs.declared.arrow.Arrow.{Arrow}
+use Rattle.arcs.specs.declared.Arc.{Arc}
+use Rattle.arrows.specs.declared.Arrow.{Arrow}
 use Rattle.arrows.specs.Arrows.{square, cross, dot, ahead}
 use Rattle.sweeps.specs.declared.Sweep.{Sweep}
 use Rattle.sweeps.specs.declared.Sweep.the-variants.{Full, Nothing, Short, Long}

@@ -6,10 +6,10 @@ use Prim.Native.Nat.{ℕ, _*_, _<_}
 use lib.Dec.{ltb, eqb}
 use lib.IntN.{ℤ, pos, _+ℤ_, _-ℤ_, _*ℤ_}
 use lib.Signed.{ltZ, leZ, _≤ℤ_}
-use Rattle.settings.specs.declared.limits.Limits.{Limits}
+use Rattle.settings.specs.declared.Limits.{Limits}
 use Rattle.settings.specs.Limits.{outside}
-use Rattle.arcs.specs.declared.arc.Arc.{Arc}
-use Rattle.arrows.specs.declared.arrow.Arrow.{Arrow}
+use Rattle.arcs.specs.declared.Arc.{Arc}
+use Rattle.arrows.specs.declared.Arrow.{Arrow}
 use Rattle.arrows.specs.Arrows.{arrow, square, dot, ahead, tolerance}
 use Rattle.arcs.specs.Arcs.{startOf, endOf, radius2, uneven}
 use Rattle.sweeps.specs.Sweeps.{isFull}

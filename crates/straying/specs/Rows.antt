@@ -4,11 +4,11 @@ use mathlib.Core.Bool.{true, false}
 use mathlib.Core.List.{List, _∷_, _++_}
 use Prim.Native.Nat.{ℕ}
 use lib.IntN.{ℤ}
-use Rattle.settings.specs.declared.limits.Limits.{Limits}
-use Rattle.moves.specs.declared.record.Record.{Record}
+use Rattle.settings.specs.declared.Limits.{Limits}
+use Rattle.moves.specs.declared.Record.{Record}
 use Rattle.moves.specs.Kinds.{isArc}
 use Rattle.moves.specs.Last.{lastOf}
-use Rattle.arcs.specs.declared.arc.Arc.{Arc}
+use Rattle.arcs.specs.declared.Arc.{Arc}
 use Rattle.arcs.specs.Told.{toldBy, paired}
 use Rattle.straying.specs.Points.{OnArc, Widened, Passed}
 

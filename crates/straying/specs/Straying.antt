@@ -4,11 +4,11 @@ use mathlib.Core.Bool.{Bool, not, _&&_, _||_}
 use Prim.Native.Nat.{ℕ}
 use lib.IntN.{ℤ, pos, negℤ}
 use lib.Signed.{leZ}
-use Rattle.settings.specs.declared.limits.Limits.{Limits}
+use Rattle.settings.specs.declared.Limits.{Limits}
 use Rattle.settings.specs.Limits.{outside}
-use Rattle.arrows.specs.declared.arrow.Arrow.{Arrow}
+use Rattle.arrows.specs.declared.Arrow.{Arrow}
 use Rattle.arrows.specs.Arrows.{arrow, rootUpTo, rootFrom}
-use Rattle.arcs.specs.declared.arc.Arc.{Arc}
+use Rattle.arcs.specs.declared.Arc.{Arc}
 use Rattle.arcs.specs.Arcs.{radius2}
 use Rattle.sweeps.specs.Sweeps.{courseOf, crosses}
 use Rattle.sweeps.specs.declared.Course.{Course}

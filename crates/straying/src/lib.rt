@@ -5,10 +5,10 @@ ghost use lib.IntN.{natAbs, negℤ};
 ghost use Rattle.straying.specs.Straying.{spans, rootIn, holds, straysAt, straysSomewhere, straying};
 ghost use Rattle.arrows.specs.Known.{greatestPart, Sized, both};
 ghost use Rattle.arcs.specs.Known.{InReach, LimitsInReach};
-use arcs::arc::Arc;
-use arrows::arrow::Arrow;
-use arrows::arrow::Spot;
-use settings::limits::Limits;
+use arcs::Arc;
+use arrows::Arrow;
+use arrows::Spot;
+use settings::Limits;
 use sweeps::Course;
 use sweeps::Quadrant;
 
@@ -79,19 +79,19 @@ pub fn is_straying(l: Limits, a: Arc) -> bool
 {
     let centre = a.centre;
     let end = a.end;
-    if settings::limits::is_outside(l, end.x, end.z) {
+    if settings::is_outside(l, end.x, end.z) {
         return true;
     }
     let for_x = l.x;
     let for_z = l.z;
-    let low = arrows::arrow::arrow_to(
+    let low = arrows::arrow_to(
         centre,
         Spot {
             x: for_x.lowest,
             z: for_z.lowest,
         },
     );
-    let high = arrows::arrow::arrow_to(
+    let high = arrows::arrow_to(
         centre,
         Spot {
             x: for_x.highest,
@@ -99,6 +99,6 @@ pub fn is_straying(l: Limits, a: Arc) -> bool
         },
     );
     let c = sweeps::course_of(a);
-    let n = arrows::arrow::square_of(c.from);
+    let n = arrows::square_of(c.from);
     strays_somewhere(low, high, n, c)
 }

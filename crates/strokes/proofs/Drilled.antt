@@ -8,16 +8,16 @@ use native.Mathlib.Omega.{arith}
 use lib.Dec.{eqb}
 use lib.IntN.{ℤ, _-ℤ_, natAbs}
 use borrow.Author.Tests.{eqb-true}
-use Rattle.moves.specs.declared.record.Record.{Record}
+use Rattle.moves.specs.declared.Record.{Record}
 use Rattle.moves.specs.Kinds.{rapid, feed, dwell}
 use Rattle.axes.proofs.Places.{neither}
 use Rattle.axes.proofs.Axes.{Sided, sided}
 use Rattle.turning.specs.Turned.{feedKind}
 use Rattle.turning.proofs.Turned.{Reads}
-use Rattle.drilling.specs.declared.bore.Bore.{Bore}
-use Rattle.drilling.specs.Bites.{hasZero}
+use Rattle.drilling.specs.declared.Bore.{Bore}
+use Rattle.bites.specs.Bites.{hasZero}
 use Rattle.drilling.specs.Drilling.{strokeOf, wayOf, bites, wrong, deepAt, outTo, clearing, boring, dwelling, drilling}
-use Rattle.drilling.proofs.Rows.{some}
+use Rattle.bites.proofs.Rows.{some}
 use Rattle.drilling.proofs.Asked.{asked, bites-sum}
 use Rattle.strokes.specs.Strokes.{Inward, linesAt, depthsAt, Above, AddUp, Cut, cut, DepthsAddUp}
 use Rattle.strokes.proofs.Reading.{passed-over, elsewhere, one-line, lines-append, linesOf, adds-up, untouched-at, on-way, same-place}

@@ -9,14 +9,14 @@ use lib.Dec.{eqb}
 use lib.IntN.{ℤ, pos, _+ℤ_, _-ℤ_, natAbs, negℤ}
 use lib.Signed.{_≤ℤ_}
 use borrow.Author.Tests.{eqb-true, ne-eqb}
-use Rattle.whole.specs.declared.signed.Side.the-variants.{Minus}
+use Rattle.whole.specs.declared.Side.the-variants.{Minus}
 use Rattle.whole.specs.Signed.{along}
 use Rattle.whole.proofs.Integers.{whole, add-in, sub-in, up-neg, down-neg, abs}
-use Rattle.moves.specs.declared.record.Record.{Record}
+use Rattle.moves.specs.declared.Record.{Record}
 use Rattle.axes.specs.Goes.{dwellAt}
 use Rattle.axes.proofs.Axes.{Sided, sided}
 use Rattle.turning.proofs.Turned.{rapid-reads, feed-reads}
-use Rattle.grooving.specs.declared.groove.Groove.{Groove}
+use Rattle.grooving.specs.declared.Groove.{Groove}
 use Rattle.grooving.specs.Grooving.{lengthOf, wayOf, wrong, rest, stepCount, steps, cutCount, cuts, outTo, deepAt, cutting, dwelling, plunge, plunges, afterFirst, grooving}
 use Rattle.grooving.proofs.Asked.{asked}
 use Rattle.grooving.proofs.Rows.{some-cuts, few-cuts, cuts-sum, no-steps, steps-are, some-steps, few-steps}

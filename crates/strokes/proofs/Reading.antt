@@ -10,13 +10,13 @@ use lib.Dec.{ltb, eqb}
 use lib.IntN.{ℤ, pos, _+ℤ_, _-ℤ_, natAbs, negℤ}
 use lib.ListN.{replicate}
 use borrow.Author.Tests.{lt-ltb}
-use Rattle.whole.specs.declared.signed.Side.{Side}
-use Rattle.whole.specs.declared.signed.Side.the-variants.{Minus, Zero, Plus}
+use Rattle.whole.specs.declared.Side.{Side}
+use Rattle.whole.specs.declared.Side.the-variants.{Minus, Zero, Plus}
 use Rattle.whole.specs.Signed.{along}
 use Rattle.whole.proofs.Integers.{whole, add-in, sub-in, up-neg, down-neg, abs}
 use Rattle.whole.proofs.Sides.{along-add, along-zero}
 use Rattle.division.specs.Division.{pieces, sum}
-use Rattle.moves.specs.declared.record.Record.{Record}
+use Rattle.moves.specs.declared.Record.{Record}
 use Rattle.axes.specs.Goes.{dwellAt, inwardOf}
 use Rattle.axes.proofs.Axes.{Sided}
 use Rattle.turning.specs.Turned.{feedKind, beyond, eachDepth}

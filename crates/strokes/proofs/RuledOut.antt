@@ -6,10 +6,10 @@ use mathlib.Core.List.{List, [], _∷_, map}
 use Prim.Native.Nat.{ℕ, _+_, _<_}
 use native.Mathlib.Omega.{arith}
 use lib.IntN.{ℤ, pos, natAbs}
-use Rattle.whole.specs.declared.signed.Side.the-variants.{Minus}
+use Rattle.whole.specs.declared.Side.the-variants.{Minus}
 use Rattle.whole.specs.Signed.{minus}
 use Rattle.division.specs.Division.{sum}
-use Rattle.moves.specs.declared.record.Record.{Record}
+use Rattle.moves.specs.declared.Record.{Record}
 use Rattle.moves.specs.Kinds.{rapid, feed}
 use Rattle.turning.specs.Turned.{eachDepth}
 use Rattle.strokes.specs.Strokes.{Inward, cutsAt, linesAt, depthsAt, Cut, untouched, cut, DepthsAddUp}

@@ -11,11 +11,11 @@ use borrow.Author.Tests.{eqb-true}
 use Rattle.whole.specs.Signed.{along}
 use Rattle.whole.proofs.Sides.{along-add, along-zero}
 use Rattle.division.proofs.Divisions.{pieces-sum}
-use Rattle.moves.specs.declared.record.Record.{Record}
+use Rattle.moves.specs.declared.Record.{Record}
 use Rattle.axes.specs.Axis.{side, net, allowanceLine}
 use Rattle.axes.specs.Goes.{rapidTo, feedTo}
 use Rattle.axes.proofs.Axes.{Sided, sided}
-use Rattle.turning.specs.declared.cycle.Turning.{Turning}
+use Rattle.turning.specs.declared.Turning.{Turning}
 use Rattle.turning.specs.Turning.{tooShort, passCount, row, passFor, passOn, passes, turning}
 use Rattle.turning.proofs.Asked.{long-enough}
 use Rattle.turning.proofs.Counts.{few-passes}

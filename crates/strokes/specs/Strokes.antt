@@ -6,17 +6,17 @@ use mathlib.Core.List.{List, [], _∷_, map}
 use Prim.Native.Nat.{ℕ, _<_}
 use lib.Dec.{ltb, eqb}
 use lib.IntN.{ℤ, pos, _-ℤ_, natAbs}
-use Rattle.whole.specs.declared.signed.Side.{Side}
+use Rattle.whole.specs.declared.Side.{Side}
 use Rattle.division.specs.Division.{sum}
-use Rattle.moves.specs.declared.record.Record.{Record}
+use Rattle.moves.specs.declared.Record.{Record}
 use Rattle.axes.specs.Axis.{side, net}
 use Rattle.axes.specs.Goes.{inwardOf, acrossOf}
-use Rattle.turning.specs.declared.cycle.Turning.{Turning}
+use Rattle.turning.specs.declared.Turning.{Turning}
 use Rattle.turning.specs.Turning as turn
 use Rattle.turning.specs.Turned.{feedKind, eachDepth}
-use Rattle.grooving.specs.declared.groove.Groove.{Groove}
+use Rattle.grooving.specs.declared.Groove.{Groove}
 use Rattle.grooving.specs.Grooving as groove
-use Rattle.drilling.specs.declared.bore.Bore.{Bore}
+use Rattle.drilling.specs.declared.Bore.{Bore}
 use Rattle.drilling.specs.Drilling as drill
 
 -- the way in: which axis goes in (Z where facing, else X), where it starts, to which side, and how far in all

@@ -8,7 +8,7 @@ use mathlib.Core.Bool.{Bool}
 use lib.Signed.{ltZ}
 use Rattle.whole.specs.Signed.{minus}
 use Rattle.whole.proofs.Integers.{abs-neg, lt-test, nlt-test}
-use Rattle.arrows.specs.declared.arrow.Arrow.{Arrow}
+use Rattle.arrows.specs.declared.Arrow.{Arrow}
 use Rattle.arrows.specs.Arrows.{square, cross, dot}
 use Rattle.sweeps.specs.declared.Quadrant.{Quadrant}
 use Rattle.sweeps.specs.declared.Quadrant.the-variants.{East, North, West, South}

@@ -9,8 +9,8 @@ use lib.IntN.{ℤ, pos, negℤ}
 use lib.Signed.{ltZ}
 use Rattle.whole.proofs.Integers.{whole, up-neg, down-neg}
 use Rattle.axes.proofs.Places.{neither}
-use Rattle.arcs.specs.declared.arc.Arc.{Arc}
-use Rattle.arrows.specs.declared.arrow.Arrow.{Arrow}
+use Rattle.arcs.specs.declared.Arc.{Arc}
+use Rattle.arrows.specs.declared.Arrow.{Arrow}
 use Rattle.arrows.specs.Arrows.{cross, dot, ahead}
 use Rattle.sweeps.specs.declared.Sweep.{Sweep}
 use Rattle.sweeps.specs.declared.Sweep.the-variants.{Full, Nothing, Short, Long}

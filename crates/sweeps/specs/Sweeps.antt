@@ -5,9 +5,9 @@ use lib.Dec.{eqb}
 use lib.IntN.{pos, natAbs, _-ℤ_}
 use lib.Signed.{ltZ}
 use Rattle.whole.specs.Signed.{minus}
-use Rattle.arrows.specs.declared.arrow.Arrow.{Arrow}
+use Rattle.arrows.specs.declared.Arrow.{Arrow}
 use Rattle.arrows.specs.Arrows.{dot, ahead}
-use Rattle.arcs.specs.declared.arc.Arc.{Arc}
+use Rattle.arcs.specs.declared.Arc.{Arc}
 use Rattle.arcs.specs.Arcs.{startOf, endOf}
 use Rattle.sweeps.specs.declared.Sweep.{Sweep}
 use Rattle.sweeps.specs.declared.Sweep.the-variants.{Full, Nothing, Short, Long}

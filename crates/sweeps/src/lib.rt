@@ -6,8 +6,8 @@ ghost use Rattle.arrows.specs.Arrows.{cross, ahead};
 ghost use Rattle.sweeps.specs.Sweeps.{isFull, sweep, courseOf, unit, between, crosses};
 ghost use Rattle.arrows.specs.Known.{Sized, both};
 ghost use Rattle.arcs.specs.Known.{InReach};
-use arcs::arc::Arc;
-use arrows::arrow::Arrow;
+use arcs::Arc;
+use arrows::Arrow;
 
 pub enum Sweep {
     Full,
@@ -40,7 +40,7 @@ fn is_full(a: Arc) -> bool
 {
     let s = a.start;
     let e = a.end;
-    (whole::signed::distance(e.x, s.x) == 0) & (whole::signed::distance(e.z, s.z) == 0)
+    (whole::distance(e.x, s.x) == 0) & (whole::distance(e.z, s.z) == 0)
 }
 
 fn sweep_between(clockwise: bool, from: Arrow, to: Arrow) -> Sweep
@@ -48,14 +48,14 @@ fn sweep_between(clockwise: bool, from: Arrow, to: Arrow) -> Sweep
     requires { ⌜ Sized to ⌝ }
     ensures { λ r. ⌜ r ≡ sweep clockwise from to ⌝ }
 {
-    let on = arrows::arrow::ahead_of(clockwise, from, to);
+    let on = arrows::ahead_of(clockwise, from, to);
     if on < 0 {
         return Sweep::Long;
     }
     if 0 < on {
         return Sweep::Short;
     }
-    if 0 < arrows::arrow::dot_of(from, to) {
+    if 0 < arrows::dot_of(from, to) {
         return Sweep::Nothing;
     }
     Sweep::Short
@@ -69,8 +69,8 @@ pub fn course_of(a: Arc) -> Course
     let centre = a.centre;
     let start = a.start;
     let end = a.end;
-    let from = arrows::arrow::arrow_to(centre, start);
-    let to = arrows::arrow::arrow_to(centre, end);
+    let from = arrows::arrow_to(centre, start);
+    let to = arrows::arrow_to(centre, end);
     if is_full(a) {
         return Course {
             clockwise,

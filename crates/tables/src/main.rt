@@ -14,7 +14,7 @@ const MARK: u8 = 30;
 const CAME: u64 = 9_223_372_036_854_775_808;
 
 // The longest table that is lent.
-const PLACES: usize = reading::read::MOST_PLACES;
+const PLACES: usize = reading::MOST_PLACES;
 
 // The longest listing.
 const TEXT: usize = listing::lines::LONGEST_HEAD

@@ -12,10 +12,10 @@ use Rattle.tape.specs.Lines.{gapOf, lineAt, lines}
 use Rattle.addresses.specs.Words.{nextWord, wordsFrom}
 use Rattle.block.specs.Words.{longestLine, noWords, gather, lineOf, startOf}
 use Rattle.block.specs.Worded.{Worded}
-use Rattle.block.specs.declared.words.Block.{Block}
-use Rattle.block.specs.declared.words.Head.the-variants.{BlockLine}
-use Rattle.block.specs.declared.words.ReadLine.{ReadLine}
-use Rattle.block.specs.declared.words.Rest.{Rest}
+use Rattle.block.specs.declared.Block.{Block}
+use Rattle.block.specs.declared.Head.the-variants.{BlockLine}
+use Rattle.block.specs.declared.ReadLine.{ReadLine}
+use Rattle.block.specs.declared.Rest.{Rest}
 use Rattle.block.proofs.Lines.{rest-none, lineFrom, line-from}
 use Rattle.block.proofs.Worded.{worded}
 use Rattle.jumping.specs.Jumping.{jumpIn, jumpWords}

@@ -13,8 +13,8 @@ use Rattle.alarms.specs.Numbers.{tooManyBegun, wrongEnd}
 use Rattle.alarms.specs.Given.{IsAlarm}
 use Rattle.alarms.proofs.Above.{alarm-above}
 use Rattle.moves.specs.Form.{stamped}
-use Rattle.moves.specs.declared.record.Record.{Record}
-use Rattle.moves.specs.declared.record.Origin.{Origin}
+use Rattle.moves.specs.declared.Record.{Record}
+use Rattle.moves.specs.declared.Origin.{Origin}
 use Rattle.moves.proofs.OneReading.{length-stamped}
 use Rattle.tape.specs.Lines.{lineAt, lines}
 use Rattle.numbers.proofs.Bounds.{cond-ind}
@@ -22,16 +22,16 @@ use Rattle.addresses.specs.Words.{lacksPoint}
 use Rattle.codes.specs.Codes.{gCode, mCode}
 use Rattle.block.specs.Words.{slotOf, noWords, isEnd, putWord}
 use Rattle.block.specs.Slots.{has, codeIn, gIn, mIn}
-use Rattle.block.specs.declared.words.Block.{Block}
+use Rattle.block.specs.declared.Block.{Block}
 use Rattle.state.specs.Known.{Sound}
-use Rattle.state.specs.Request.{steered, flowBy, requestOf}
-use Rattle.state.specs.declared.request.Request.{Request}
-use Rattle.state.specs.declared.request.Request.the-variants as next
+use Rattle.requests.specs.Request.{steered, flowBy, requestOf}
+use Rattle.requests.specs.declared.Request.{Request}
+use Rattle.requests.specs.declared.Request.the-variants as next
 use Rattle.jumping.specs.Jumping.{jumpWords}
 use Rattle.places.specs.declared.Found.{Found}
 use Rattle.places.specs.declared.Found.the-variants.{At, Nowhere}
 use Rattle.settings.specs.Wrong.{highestSubroutine}
-use Rattle.settings.specs.declared.control.Settings.{Settings}
+use Rattle.settings.specs.declared.Settings.{Settings}
 use Rattle.finding.specs.Finding.{firstBlock}
 use Rattle.finding.specs.Finds.{Finds}
 use Rattle.verdicts.specs.Verdicts.{alarmIn}
@@ -44,11 +44,11 @@ use Rattle.ahead.specs.declared.Frame.{Frame}
 use Rattle.ahead.specs.declared.Onward.{Onward}
 use Rattle.ahead.specs.declared.Onward.the-variants.{On, Call, Jump, Return, End, Stop}
 use Rattle.ahead.proofs.Places.{OnwardOn, looked-on, CallFound, looked-found, looked-same}
-use Rattle.taking.specs.declared.step.Run.{Run}
-use Rattle.taking.specs.declared.step.StepDone.{StepDone}
-use Rattle.taking.specs.declared.step.Hand.{Hand}
-use Rattle.taking.specs.declared.step.Hand.the-variants as hand
-use Rattle.taking.specs.declared.step.Opened.{Opened}
+use Rattle.taking.specs.declared.Run.{Run}
+use Rattle.taking.specs.declared.StepDone.{StepDone}
+use Rattle.taking.specs.declared.Hand.{Hand}
+use Rattle.taking.specs.declared.Hand.the-variants as hand
+use Rattle.taking.specs.declared.Opened.{Opened}
 use Rattle.taking.specs.declared.quiet.Quiet.{Quiet}
 use Rattle.taking.specs.declared.quiet.Quiet.the-variants as quiet
 use Rattle.taking.specs.Steps.{Task, taskIn, blockOn, onwardBy, onwardOf, alarmBy, alarmAt, runAfter, doneAt, recordsAt, passedBy, originAt, listedBy, Taken, takenBy, takenFrom}

@@ -5,9 +5,9 @@ use Prim.Native.Nat.{ℕ, _+_, _≤_, _<_}
 use lib.IntN.{ℤ}
 use lib.ListN.{length, take}
 use Rattle.moves.specs.Form.{recordLimit, stamped}
-use Rattle.moves.specs.declared.record.Listed.{Listed}
+use Rattle.moves.specs.declared.Listed.{Listed}
 use Rattle.settings.specs.Known.{Table, InRange}
-use Rattle.settings.specs.declared.control.Settings.{Settings}
+use Rattle.settings.specs.declared.Settings.{Settings}
 use Rattle.finding.specs.Finds.{Finds}
 use Rattle.state.specs.Known.{Sound}
 use Rattle.stages.specs.Cursor as cursor
@@ -15,10 +15,10 @@ use Rattle.ahead.specs.Ahead.{FoundAt}
 use Rattle.ahead.specs.declared.Frame.{Frame}
 use Rattle.ahead.specs.declared.Onward.{Onward}
 use Rattle.ahead.specs.declared.Onward.the-variants.{On, Call, Jump, Return, End, Stop}
-use Rattle.taking.specs.declared.step.Run.{Run}
-use Rattle.taking.specs.declared.step.Hand.{Hand}
-use Rattle.taking.specs.declared.step.Hand.the-variants.{Nothing, Block}
-use Rattle.taking.specs.declared.step.Opened.{Opened}
+use Rattle.taking.specs.declared.Run.{Run}
+use Rattle.taking.specs.declared.Hand.{Hand}
+use Rattle.taking.specs.declared.Hand.the-variants.{Nothing, Block}
+use Rattle.taking.specs.declared.Opened.{Opened}
 use Rattle.taking.specs.Steps.{Task, taskIn, listedBy, takenFrom}
 
 -- ---- WHAT IS IN HAND: the records of a block that was opened, each with the block that it came from

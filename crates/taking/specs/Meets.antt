@@ -6,13 +6,13 @@ use Prim.Native.Nat.{ℕ, _+_, _-_, _%_, _≤_, _<_}
 use lib.Dec.{leb, ltb, eqb}
 use lib.ListN.{length, take, drop}
 use Rattle.alarms.specs.Numbers.{tooManyBegun, wrongEnd}
-use Rattle.moves.specs.declared.record.Origin.{Origin}
-use Rattle.settings.specs.declared.control.Settings.{Settings}
+use Rattle.moves.specs.declared.Origin.{Origin}
+use Rattle.settings.specs.declared.Settings.{Settings}
 use Rattle.tape.specs.Lines.{lineAt, lines}
 use Rattle.block.specs.Words.{longestLine, startOf, noWords}
-use Rattle.block.specs.declared.words.Block.{Block}
-use Rattle.block.specs.declared.words.Head.{Head}
-use Rattle.block.specs.declared.words.LineStart.the-variants.{With}
+use Rattle.block.specs.declared.Block.{Block}
+use Rattle.block.specs.declared.Head.{Head}
+use Rattle.block.specs.declared.LineStart.the-variants.{With}
 use Rattle.jumping.specs.Jumping.{jumpIn, jumpWords}
 use Rattle.jumping.specs.declared.Jumping.{Jumping}
 use Rattle.jumping.specs.declared.Jumping.the-variants.{To, Other}
@@ -23,17 +23,17 @@ use Rattle.finding.specs.Finding.{firstBlock, blockAt, nextBlock, BlockIn}
 use Rattle.finding.specs.declared.BlockAt.{BlockAt}
 use Rattle.finding.specs.declared.NextBlock.{NextBlock}
 use Rattle.finding.specs.declared.NextBlock.the-variants as found
-use Rattle.state.specs.Request.{requestOf}
-use Rattle.state.specs.declared.modal.State.{State}
-use Rattle.state.specs.declared.request.Request.the-variants as next
+use Rattle.requests.specs.Request.{requestOf}
+use Rattle.state.specs.declared.State.{State}
+use Rattle.requests.specs.declared.Request.the-variants as next
 use Rattle.ahead.specs.Ahead.{onto, lookedBy, lookedUpIn, LooksUp}
 use Rattle.ahead.specs.declared.Frame.{Frame}
 use Rattle.ahead.specs.declared.Onward.{Onward}
 use Rattle.ahead.specs.declared.Onward.the-variants.{Stop}
-use Rattle.taking.specs.declared.step.Run.{Run}
-use Rattle.taking.specs.declared.step.StepDone.{StepDone}
-use Rattle.taking.specs.declared.step.Hand.the-variants.{Nothing}
-use Rattle.taking.specs.declared.step.Opened.{Opened}
+use Rattle.taking.specs.declared.Run.{Run}
+use Rattle.taking.specs.declared.StepDone.{StepDone}
+use Rattle.taking.specs.declared.Hand.the-variants.{Nothing}
+use Rattle.taking.specs.declared.Opened.{Opened}
 use Rattle.taking.specs.declared.quiet.Quiet.{Quiet}
 use Rattle.taking.specs.declared.quiet.Quiet.the-variants as quiet
 use Rattle.taking.specs.declared.quiet.Met.{Met}

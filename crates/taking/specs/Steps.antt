@@ -8,14 +8,14 @@ use lib.IntN.{ℤ}
 use lib.ListN.{length}
 use Rattle.alarms.specs.Numbers.{tooManyBegun, wrongEnd}
 use Rattle.moves.specs.Form.{roomOf, stamped}
-use Rattle.moves.specs.declared.record.Record.{Record}
-use Rattle.moves.specs.declared.record.Origin.{Origin}
-use Rattle.moves.specs.declared.record.Listed.{Listed}
+use Rattle.moves.specs.declared.Record.{Record}
+use Rattle.moves.specs.declared.Origin.{Origin}
+use Rattle.moves.specs.declared.Listed.{Listed}
 use Rattle.tape.specs.Lines.{textAt, lines}
 use Rattle.block.specs.Words.{longestLine, noWords, lineOf}
-use Rattle.state.specs.Request.{requestOf}
-use Rattle.block.specs.declared.words.Block.{Block}
-use Rattle.settings.specs.declared.control.Settings.{Settings}
+use Rattle.requests.specs.Request.{requestOf}
+use Rattle.block.specs.declared.Block.{Block}
+use Rattle.settings.specs.declared.Settings.{Settings}
 use Rattle.finding.specs.Finding.{firstBlock, blockNumberAt}
 use Rattle.places.specs.declared.Found.{Found}
 use Rattle.places.specs.declared.Found.the-variants.{At, Nowhere}
@@ -25,8 +25,8 @@ use Rattle.ahead.specs.Ahead.{onto, lookedUp}
 use Rattle.ahead.specs.declared.Frame.{Frame}
 use Rattle.ahead.specs.declared.Onward.{Onward}
 use Rattle.ahead.specs.declared.Onward.the-variants.{On, Call, Jump, Return, End, Stop}
-use Rattle.taking.specs.declared.step.Run.{Run}
-use Rattle.taking.specs.declared.step.StepDone.{StepDone}
+use Rattle.taking.specs.declared.Run.{Run}
+use Rattle.taking.specs.declared.StepDone.{StepDone}
 
 -- WHAT A RUN IS GIVEN: the tape up to where reading ended, the table, the settings, the place of the first line, and how many records have room
 pub record Task : Type 0 where

@@ -3,13 +3,12 @@
 // A block that has no words, or is a jump alone, is told by its text and done in quiet.rt; every other is opened by its words, in `wording`. Whoever writes the records asks for the two himself, so
 // that nothing is built for a block that has none.
 pub mod quiet;
-pub mod step;
 
-use crate::step::Run;
-use crate::step::StepDone;
 use ahead::Frame;
 use ahead::Onward;
-use state::modal::State;
+use moves::Origin;
+use stages::Cursor;
+use state::State;
 ghost use mathlib.Core.Path.{_≡_};
 ghost use Prim.Native.Nat.{_<_};
 ghost use Rattle.ahead.specs.Ahead.{onto};
@@ -69,4 +68,30 @@ pub fn onto(frame: Frame, at: usize) -> Frame
         calls_left: frame.calls_left,
         at,
     }
+}
+
+// A run between two blocks: the machine's state, how many blocks may still be begun, and how many records are written.
+pub struct Run {
+    pub state: State,
+    pub blocks_left: u32,
+    pub count: usize,
+}
+
+// What came of a step: where the run goes on, the run after it, and the place of the line behind the block.
+pub struct StepDone {
+    pub onward: Onward,
+    pub run: Run,
+    pub after: usize,
+}
+
+// What a block that was opened has to hand out: nothing, or its records, by its cursor, and where they come from.
+pub enum Hand {
+    Nothing,
+    Block(Cursor, Origin),
+}
+
+// A step that was taken: what came of it, and what its block has to hand out. The run's count has the records in hand.
+pub struct Opened {
+    pub done: StepDone,
+    pub hand: Hand,
 }

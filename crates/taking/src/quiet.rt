@@ -1,14 +1,14 @@
 // The next block as it is met. One without words, and one that is a jump alone, is told by its text, and done without its words being put together: it changes nothing but where the run goes on
 // and how many blocks may still be begun.
-use crate::step::Run;
-use crate::step::StepDone;
+use crate::Run;
+use crate::StepDone;
 use ahead::Frame;
 use ahead::Onward;
 use finding::BlockAt;
 use finding::NextBlock;
 use jumping::Jumping;
-use settings::control::Settings;
-use state::request::Request;
+use requests::Request;
+use settings::Settings;
 ghost use mathlib.Core.Path.{_≡_};
 ghost use Prim.Native.Nat.{_≤_, _<_};
 ghost use lib.ListN.{length, take};
@@ -35,7 +35,7 @@ fn jump_on(line: &[u8], behind: usize) -> Jumping
     ensures jump { λ r. ⌜ r ≡ jumpOn (now (line .entry)) behind ⌝ }
     ensures words { λ r. ⌜ JumpMeets (now (line .entry)) r ⌝ }
 {
-    if line.len() > block::words::LONGEST_LINE {
+    if line.len() > block::LONGEST_LINE {
         return Jumping::Other;
     }
     jumping::jump_in(&line[behind..])

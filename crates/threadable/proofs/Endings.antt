@@ -12,12 +12,12 @@ use Rattle.division.specs.declared.Pieces.{Pieces}
 use Rattle.division.specs.Division.{sum}
 use Rattle.division.specs.Carried.{rowOf}
 use Rattle.roots.proofs.Rooting.{root-mono}
-use Rattle.depths.specs.declared.cuts.Falling.{Falling}
-use Rattle.depths.specs.declared.cuts.Cuts.{Cuts}
-use Rattle.depths.specs.declared.cuts.Cuts.the-variants.{Even, ByDepth, ByNumber}
+use Rattle.cuts.specs.declared.Falling.{Falling}
+use Rattle.cuts.specs.declared.Cuts.{Cuts}
+use Rattle.cuts.specs.declared.Cuts.the-variants.{Even, ByDepth, ByNumber}
 use Rattle.depths.specs.Depths.{running}
 use Rattle.depths.specs.Promised.{Rises}
-use Rattle.depths.specs.Cuts.{rooted, upTo, shared, restOf, over, Summed, Sound, Makes}
+use Rattle.cuts.specs.Cuts.{rooted, upTo, shared, restOf, over, Summed, Sound, Makes}
 use Rattle.threadable.specs.Ends.{lastOf, deepest, Rising, onlyLast}
 
 -- ---- a row that rises

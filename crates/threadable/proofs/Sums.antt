@@ -11,10 +11,10 @@ use Rattle.reaching.proofs.Room.{Answers}
 use Rattle.division.specs.declared.Pieces.{Pieces}
 use Rattle.division.specs.Division.{sum}
 use Rattle.division.specs.Carried.{rowOf}
-use Rattle.depths.specs.declared.cuts.Falling.{Falling}
-use Rattle.depths.specs.declared.cuts.Cuts.{Cuts}
-use Rattle.depths.specs.declared.cuts.Cuts.the-variants.{Even, ByNumber}
-use Rattle.depths.specs.Cuts.{Summed, Sound}
+use Rattle.cuts.specs.declared.Falling.{Falling}
+use Rattle.cuts.specs.declared.Cuts.{Cuts}
+use Rattle.cuts.specs.declared.Cuts.the-variants.{Even, ByNumber}
+use Rattle.cuts.specs.Cuts.{Summed, Sound}
 
 abbrev greatest : ℕ
 greatest = 18_446_744_073_709_551_615

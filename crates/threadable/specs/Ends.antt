@@ -1,10 +1,10 @@
 -- WHERE THE CUTS OF A THREAD END, of those that are left behind the depth x.
 use mathlib.Core.List.{List, [], _∷_}
 use Prim.Native.Nat.{ℕ, _+_, _-_, _*_}
-use Rattle.depths.specs.declared.cuts.Falling.{Falling}
-use Rattle.depths.specs.declared.cuts.Cuts.{Cuts}
+use Rattle.cuts.specs.declared.Falling.{Falling}
+use Rattle.cuts.specs.declared.Cuts.{Cuts}
 use Rattle.depths.specs.Promised.{Rises}
-use Rattle.depths.specs.Cuts.{restOf}
+use Rattle.cuts.specs.Cuts.{restOf}
 
 -- the last depth of a row, and of none the depth before it
 unfoldable pub lastOf : ℕ → List ℕ → ℕ

@@ -1,10 +1,10 @@
 // Where the cuts that are left end, and whether they get there: asked without going along them.
-use depths::cuts::Cuts;
-use depths::cuts::Falling;
+use cuts::Cuts;
+use cuts::Falling;
 ghost use mathlib.Core.Path.{_≡_};
 ghost use mathlib.Core.Bool.{true};
 ghost use Prim.Native.Nat.{_<_};
-ghost use Rattle.depths.specs.Cuts.{Summed, Sound};
+ghost use Rattle.cuts.specs.Cuts.{Summed, Sound};
 ghost use Rattle.threadable.specs.Ends.{onlyLast, deepest, Rising};
 
 // The first number that 32 bits do not hold, and the last one of 64.
@@ -41,10 +41,10 @@ pub fn is_rising(depth: u32, c: Cuts) -> bool
     ensures sound { λ r. ⌜ (r ≡ true → Rising depth c) ⌝ }
     ensures all { λ r. ⌜ (Rising depth c → r ≡ true) ⌝ }
 {
-    if depths::cuts::is_over(c) {
+    if cuts::is_over(c) {
         return true;
     }
-    let next = depths::cuts::next(depth, c);
+    let next = cuts::next(depth, c);
     depth <= next.depth
 }
 
@@ -68,19 +68,19 @@ pub fn deepest_of(depth: u32, c: Cuts) -> u32
     requires { ⌜ Sound depth c ⌝ }
     ensures { λ r. ⌜ r ≡ deepest depth c ⌝ }
 {
-    if depths::cuts::is_over(c) {
+    if cuts::is_over(c) {
         return depth;
     }
     match c {
         Cuts::Even(p) => depth + (totals::total(p) as u32),
         Cuts::ByDepth(f) => {
             let last = only_last(f);
-            let handed = depths::cuts::next(depth, Cuts::ByDepth(last));
+            let handed = cuts::next(depth, Cuts::ByDepth(last));
             handed.depth
         }
         Cuts::ByNumber(f) => {
             let last = only_last(f);
-            let handed = depths::cuts::next(depth, Cuts::ByNumber(last));
+            let handed = cuts::next(depth, Cuts::ByNumber(last));
             handed.depth
         }
     }

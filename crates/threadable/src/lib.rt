@@ -1,6 +1,6 @@
 // Whether a threading cycle that is opened can go on. Every cursor that `threads` made can; one that comes back from a caller who kept it may have been changed,
 // and is asked here before its next record is.
-use threads::cursor::Cursor;
+use threads::Cursor;
 ghost use mathlib.Core.Path.{_≡_};
 ghost use mathlib.Core.Bool.{true};
 ghost use Rattle.threads.specs.Cursor.{Sound};
@@ -28,6 +28,6 @@ pub fn is_fit(c: Cursor) -> bool
     if deepest > GREATEST_D {
         return false;
     }
-    let by = threading::thread::wide_of(pass.facing, deepest - c.depth) as u32;
+    let by = threading::wide_of(pass.facing, deepest - c.depth) as u32;
     reaching::ends_within(c.line, side, by)
 }

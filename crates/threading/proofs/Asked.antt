@@ -7,11 +7,11 @@ use lib.Dec.{eqb}
 use borrow.Author.Tests.{ltb-false}
 use Rattle.axes.specs.Axis.{distance}
 use Rattle.axes.proofs.Places.{neither}
-use Rattle.depths.specs.declared.rule.Rule.{Rule}
-use Rattle.depths.specs.declared.rule.Rule.the-variants.{EvenDepth, EvenNumber, FallingDepth, FallingNumber}
+use Rattle.depths.specs.declared.Rule.{Rule}
+use Rattle.depths.specs.declared.Rule.the-variants.{EvenDepth, EvenNumber, FallingDepth, FallingNumber}
 use Rattle.depths.specs.Depths.{Enough, Proper}
-use Rattle.depths.proofs.Opened.{not-none}
-use Rattle.threading.specs.declared.thread.Thread.{Thread}
+use Rattle.cuts.proofs.Opened.{not-none}
+use Rattle.threading.specs.declared.Thread.{Thread}
 use Rattle.threading.specs.Threading.{manyCuts, crestBeyond, wrong}
 
 enough : (r : Rule) (d e : ℕ) → manyCuts r d e ≡ false → Enough r d e

@@ -9,23 +9,23 @@ use lib.IntN.{ℤ, pos, natAbs, negℤ, _+ℤ_}
 use lib.ListN.{length, length-replicate}
 use mir.Syntax.{w32}
 use mir.Val.{SFits}
-use Rattle.whole.specs.declared.signed.Side.{Side}
-use Rattle.whole.specs.declared.signed.Side.the-variants.{Minus, Zero, Plus}
+use Rattle.whole.specs.declared.Side.{Side}
+use Rattle.whole.specs.declared.Side.the-variants.{Minus, Zero, Plus}
 use Rattle.whole.specs.Signed.{along}
 use Rattle.whole.proofs.Integers.{whole, add-in, up-neg, down-neg, abs}
 use Rattle.whole.proofs.Sides.{between}
-use Rattle.moves.specs.declared.record.Record.{Record}
+use Rattle.moves.specs.declared.Record.{Record}
 use Rattle.moves.specs.Form.{AllFitting}
 use Rattle.moves.specs.Last.{lastOf}
-use Rattle.axes.specs.declared.axis.Axis.{Axis}
+use Rattle.axes.specs.declared.Axis.{Axis}
 use Rattle.axes.specs.Axis.{side}
 use Rattle.axes.specs.Goes.{rapidTo}
 use Rattle.axes.proofs.Fitting.{rapid-fitting, thread-fitting}
 use Rattle.axes.proofs.Moving.{after-rapid}
 use Rattle.depths.specs.Depths.{greatestD, depths}
 use Rattle.depths.proofs.Kept.{row-length, row-rises, few-cuts}
-use Rattle.threading.specs.declared.thread.Thread.{Thread}
-use Rattle.threading.specs.declared.passes.Pass.{Pass}
+use Rattle.threading.specs.declared.Thread.{Thread}
+use Rattle.threading.specs.declared.Pass.{Pass}
 use Rattle.threading.specs.Threading.{wholeDepth, bottom, lineAt, wrong, passFor, passOn, passes, repeated, passDepths, threading, recordCount, Told}
 use Rattle.threading.proofs.Asked.{right}
 use Rattle.threading.proofs.Lines.{wide-mono, wide-small, line-from, bottom-from}

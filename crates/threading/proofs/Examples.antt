@@ -10,11 +10,11 @@ use lib.ListN.{replicate}
 use Rattle.whole.proofs.Integers.{whole}
 use Rattle.division.specs.Division.{count, pieces, divided}
 use Rattle.roots.specs.Roots.{nearer, rootIn, root}
-use Rattle.moves.specs.declared.record.Record.{Record}
+use Rattle.moves.specs.declared.Record.{Record}
 use Rattle.moves.specs.Kinds.{rapid, thread}
 use Rattle.axes.specs.Goes.{rapidTo, threadTo}
 use Rattle.depths.specs.Depths.{running, cuts, cutCount, depths}
-use Rattle.threading.specs.declared.thread.Thread.{Thread}
+use Rattle.threading.specs.declared.Thread.{Thread}
 use Rattle.threading.specs.Bits.{isNominal, isNumber, ruleOf}
 use Rattle.threading.specs.Threading.{wide, bottom, crest, lineAt, manyCuts, crestBeyond, wrong, passOn, passes, repeated, passDepths, threading, recordCount, Told}
 

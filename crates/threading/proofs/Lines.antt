@@ -7,14 +7,14 @@ use native.Mathlib.Omega.{arith}
 use lib.Dec.{ltb}
 use lib.IntN.{ℤ, pos, negℤ, natAbs, _+ℤ_, _-ℤ_}
 use borrow.Author.Tests.{ltb-false}
-use Rattle.whole.specs.declared.signed.Side.{Side}
-use Rattle.whole.specs.declared.signed.Side.the-variants.{Minus, Zero, Plus}
+use Rattle.whole.specs.declared.Side.{Side}
+use Rattle.whole.specs.declared.Side.the-variants.{Minus, Zero, Plus}
 use Rattle.whole.specs.Signed.{sideOf, along}
 use Rattle.whole.proofs.Integers.{whole, add-in, sub-in, up-neg, down-neg}
 use Rattle.whole.proofs.Sides.{along-add, arrives}
 use Rattle.axes.specs.Axis.{distance, side}
 use Rattle.axes.proofs.Axes.{line-net}
-use Rattle.threading.specs.declared.thread.Thread.{Thread}
+use Rattle.threading.specs.declared.Thread.{Thread}
 use Rattle.threading.specs.Threading.{wide, wholeDepth, bottom, crest, lineAt, crestBeyond}
 
 -- ---- lengths per side

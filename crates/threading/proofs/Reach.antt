@@ -8,8 +8,8 @@ use Prim.Native.Nat.{ℕ, zero, suc, _+_, _<_, _≤_}
 use native.Mathlib.Omega.{arith}
 use lib.IntN.{ℤ}
 use lib.ListN.{length, replicate}
-use Rattle.moves.specs.declared.record.Record.{Record}
-use Rattle.settings.specs.declared.limits.Limits.{Limits}
+use Rattle.moves.specs.declared.Record.{Record}
+use Rattle.settings.specs.declared.Limits.{Limits}
 use Rattle.settings.specs.Limits.{outsideSpan}
 use Rattle.axes.specs.Axis.{side}
 use Rattle.axes.specs.Limits.{outsideTo, anyOutside}
@@ -19,8 +19,8 @@ use Rattle.depths.specs.Depths.{depths}
 use Rattle.depths.specs.Promised.{Rises}
 use Rattle.depths.proofs.Rows.{starts}
 use Rattle.depths.proofs.Kept.{row-length, row-rises, some-cut}
-use Rattle.threading.specs.declared.thread.Thread.{Thread}
-use Rattle.threading.specs.declared.passes.Pass.{Pass}
+use Rattle.threading.specs.declared.Thread.{Thread}
+use Rattle.threading.specs.declared.Pass.{Pass}
 use Rattle.threading.specs.Threading.{wide, wholeDepth, bottom, lineAt, wrong, passFor, passOn, passes, repeated, passDepths, threading}
 use Rattle.threading.proofs.Asked.{Right, right}
 use Rattle.threading.proofs.Lines.{gap, wide-mono, line-from, line-bottom, bottom-from}

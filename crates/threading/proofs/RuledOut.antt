@@ -9,12 +9,12 @@ use lib.IntN.{ℤ, pos, negsuc, negℤ, natAbs, _+ℤ_, _-ℤ_}
 use lib.ListN.{replicate, getD}
 use Rattle.whole.specs.Signed.{sideOf, along}
 use Rattle.whole.proofs.Integers.{whole, add-in, up-neg, down-neg}
-use Rattle.moves.specs.declared.record.Record.{Record}
+use Rattle.moves.specs.declared.Record.{Record}
 use Rattle.moves.specs.Kinds.{rapid, thread, miscellaneous}
 use Rattle.axes.specs.Axis.{distance}
 use Rattle.depths.specs.Promised.{Rises, Promised}
 use Rattle.depths.proofs.RuledOut as rows
-use Rattle.threading.specs.declared.thread.Thread.{Thread}
+use Rattle.threading.specs.declared.Thread.{Thread}
 use Rattle.threading.specs.Bits.{ruleOf}
 use Rattle.threading.specs.Threading.{lineAt, wrong, passFor, passOn, passes}
 use Rattle.threading.specs.Threaded.{fromFirst, upToLast, beyond, AtDepth, PassesAt, none, pass, cutsOf, emptiesOf, Threaded}

@@ -10,13 +10,13 @@ use lib.IntN.{ℤ}
 use lib.ListN.{length, take, drop, replicate, length-append, length-replicate}
 use lib.Seq.{take-append-seam, drop-append-seam}
 use borrow.Author.Tests.{ltb-false}
-use Rattle.moves.specs.declared.record.Record.{Record}
+use Rattle.moves.specs.declared.Record.{Record}
 use Rattle.axes.specs.Axis.{distance}
 use Rattle.axes.specs.Goes.{rapidTo, threadTo}
 use Rattle.depths.specs.Depths.{depths}
 use Rattle.depths.specs.Promised.{Rises, Promised}
 use Rattle.depths.proofs.Kept.{row-rises, promised}
-use Rattle.threading.specs.declared.thread.Thread.{Thread}
+use Rattle.threading.specs.declared.Thread.{Thread}
 use Rattle.threading.specs.Threading.{wide, lineAt, crestBeyond, wrong, passFor, passOn, passes, repeated, passDepths, threading}
 use Rattle.threading.specs.Threaded.{isBeside, fromFirst, before, upToLast, motion, Goes, RapidTo, ThreadTo, AtDepth, PassesAt, none, pass, cutsOf, emptiesOf, Threaded}
 use Rattle.threading.proofs.Asked.{right}

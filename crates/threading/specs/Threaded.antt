@@ -9,11 +9,11 @@ use lib.IntN.{ℤ, _+ℤ_}
 use lib.ListN.{length, take, drop, replicate}
 use Rattle.whole.specs.Among.{among}
 use Rattle.whole.specs.Signed.{along}
-use Rattle.moves.specs.declared.record.Record.{Record}
+use Rattle.moves.specs.declared.Record.{Record}
 use Rattle.axes.specs.Axis.{distance, side}
 use Rattle.axes.specs.Goes.{inwardOf, acrossOf}
 use Rattle.depths.specs.Promised.{Promised}
-use Rattle.threading.specs.declared.thread.Thread.{Thread}
+use Rattle.threading.specs.declared.Thread.{Thread}
 
 -- ---- reading the records
 -- 01: "5 tool (T), 6 M (number), 7 speed": of a block's records those besides its motion

@@ -9,14 +9,14 @@ use lib.ListN.{replicate}
 use mir.Syntax.{w32}
 use mir.Val.{SFits}
 use Rattle.whole.specs.Signed.{along}
-use Rattle.moves.specs.declared.record.Record.{Record}
+use Rattle.moves.specs.declared.Record.{Record}
 use Rattle.axes.specs.Axis.{distance, side}
 use Rattle.axes.specs.Goes.{rapidTo, threadTo}
-use Rattle.depths.specs.declared.rule.Rule.{Rule}
-use Rattle.depths.specs.declared.rule.Rule.the-variants.{EvenDepth, EvenNumber, FallingDepth, FallingNumber}
+use Rattle.depths.specs.declared.Rule.{Rule}
+use Rattle.depths.specs.declared.Rule.the-variants.{EvenDepth, EvenNumber, FallingDepth, FallingNumber}
 use Rattle.depths.specs.Depths.{greatestD, cutCount, depths}
-use Rattle.threading.specs.declared.thread.Thread.{Thread}
-use Rattle.threading.specs.declared.passes.Pass.{Pass}
+use Rattle.threading.specs.declared.Thread.{Thread}
+use Rattle.threading.specs.declared.Pass.{Pass}
 
 -- A THREAD { facing, infeed, path, rule, nominal, d3, d6, empty, pitch } goes in along `infeed` and cuts along `path`. Longitudinal these are X and Z, facing Z and X.
 -- ---- where it lies

@@ -12,26 +12,26 @@ use lib.ListN.{replicate}
 use mir.Syntax.{w32}
 use mir.Val.{SFits}
 use borrow.Author.Tests.{eqb-true}
-use Rattle.whole.specs.declared.signed.Side.{Side}
-use Rattle.whole.specs.declared.signed.Side.the-variants.{Minus, Zero, Plus}
+use Rattle.whole.specs.declared.Side.{Side}
+use Rattle.whole.specs.declared.Side.the-variants.{Minus, Zero, Plus}
 use Rattle.whole.specs.Signed.{along}
 use Rattle.whole.proofs.Integers.{whole, sub-in, up-neg, down-neg}
 use Rattle.whole.proofs.Sides.{along-add, along-zero, between}
-use Rattle.moves.specs.declared.record.Record.{Record}
+use Rattle.moves.specs.declared.Record.{Record}
 use Rattle.axes.specs.Axis.{side}
 use Rattle.axes.specs.Goes.{rapidTo}
-use Rattle.depths.specs.declared.cuts.Cuts.{Cuts}
+use Rattle.cuts.specs.declared.Cuts.{Cuts}
 use Rattle.depths.specs.Depths.{greatestD, depths}
 use Rattle.depths.specs.Promised.{Rises}
-use Rattle.depths.specs.Cuts as cut
+use Rattle.cuts.specs.Cuts as cut
 use Rattle.depths.proofs.Rows.{starts}
 use Rattle.depths.proofs.Kept.{row-rises}
-use Rattle.depths.proofs.Opened as cut-laws
-use Rattle.threading.specs.declared.thread.Thread.{Thread}
-use Rattle.threading.specs.declared.passes.Pass.{Pass}
-use Rattle.threads.specs.declared.cursor.Stage.{Stage}
-use Rattle.threads.specs.declared.cursor.Stage.the-variants.{In, Cut, Out, Back}
-use Rattle.threads.specs.declared.cursor.Cursor.{Cursor}
+use Rattle.cuts.proofs.Opened as cut-laws
+use Rattle.threading.specs.declared.Thread.{Thread}
+use Rattle.threading.specs.declared.Pass.{Pass}
+use Rattle.threads.specs.declared.Stage.{Stage}
+use Rattle.threads.specs.declared.Stage.the-variants.{In, Cut, Out, Back}
+use Rattle.threads.specs.declared.Cursor.{Cursor}
 use Rattle.threading.specs.Threading.{wide, crest, wrong, passFor, passOn, passes, repeated, threading, Told}
 use Rattle.threads.specs.Cursor.{cutsLeft, crestOf, lineOf, restAt, restOf, overAt, over, at, Sound, Makes}
 use Rattle.threading.proofs.Asked.{right}

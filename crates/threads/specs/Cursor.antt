@@ -8,15 +8,15 @@ use lib.IntN.{ℤ, _+ℤ_, _-ℤ_}
 use mir.Syntax.{w32}
 use mir.Val.{SFits}
 use Rattle.whole.specs.Signed.{along}
-use Rattle.moves.specs.declared.record.Record.{Record}
+use Rattle.moves.specs.declared.Record.{Record}
 use Rattle.axes.specs.Goes.{rapidTo, threadTo}
 use Rattle.depths.specs.Depths.{greatestD}
 use Rattle.depths.specs.Promised.{Rises}
-use Rattle.depths.specs.Cuts as cut
+use Rattle.cuts.specs.Cuts as cut
 use Rattle.threading.specs.Threading.{wide, passes, repeated}
-use Rattle.threads.specs.declared.cursor.Stage.{Stage}
-use Rattle.threads.specs.declared.cursor.Stage.the-variants.{In, Cut, Out, Back}
-use Rattle.threads.specs.declared.cursor.Cursor.{Cursor}
+use Rattle.threads.specs.declared.Stage.{Stage}
+use Rattle.threads.specs.declared.Stage.the-variants.{In, Cut, Out, Back}
+use Rattle.threads.specs.declared.Cursor.{Cursor}
 
 -- ---- the records that are left
 -- the depths of the cuts behind the present one, and of all passes behind it

@@ -4,7 +4,7 @@ use libc::STDIN_FILENO;
 use libc::STDOUT_FILENO;
 use numbers::Number;
 use numbers::NumberForm;
-use state::request::Request;
+use requests::Request;
 use trying::Came;
 use trying::Tried;
 ghost use Prim.Native.Nat.{_+_, _≤_};
@@ -33,7 +33,7 @@ fn show_signed(n: i32) {
     if n < 0 {
         show_text(b"-");
     }
-    show_number(whole::signed::magnitude(n));
+    show_number(whole::magnitude(n));
 }
 
 fn four_at(buf: &[u8], at: usize) -> [u8; 4]
@@ -48,9 +48,9 @@ fn show_place(buf: &[u8], at: usize)
 {
     let x = four_at(buf, at);
     let z = four_at(buf, at + 4);
-    show_signed(whole::bytes::i32_of_bytes(x));
+    show_signed(octets::i32_of_bytes(x));
     show_text(b" ");
-    show_signed(whole::bytes::i32_of_bytes(z));
+    show_signed(octets::i32_of_bytes(z));
     show_text(b" ");
 }
 
@@ -65,7 +65,7 @@ fn show_record(buf: &[u8], at: usize)
     show_text(b" ");
     show_place(buf, at + 4);
     let value = four_at(buf, at + 12);
-    show_number(whole::bytes::u32_of_bytes(value));
+    show_number(octets::u32_of_bytes(value));
     show_text(b"\n");
 }
 
@@ -152,7 +152,7 @@ fn show(name: &[u8], room: &[u8], lines: &[u8]) {
     show_text(b"\n");
     let number = numbers::read_number(room, NumberForm::TwoDigits);
     match number {
-        Number::Value(n, _) => show_in_room(lines, whole::signed::magnitude(n)),
+        Number::Value(n, _) => show_in_room(lines, whole::magnitude(n)),
         Number::Bad => show_unreadable(),
     }
 }

@@ -7,13 +7,13 @@ use native.Mathlib.Omega.{arith}
 use lib.IntN.{ℤ, pos}
 use lib.ListN.{getD, replicate}
 use Rattle.whole.specs.Position.{inTable}
-use Rattle.block.specs.declared.words.Block.{Block}
+use Rattle.block.specs.declared.Block.{Block}
 use Rattle.settings.specs.Known.{Table, InRange}
-use Rattle.settings.specs.Listmoves.{listmoves, noOffsets}
+use Rattle.panel.specs.Listmoves.{listmoves, noOffsets}
 use Rattle.settings.specs.Wrong.{tableSize}
-use Rattle.settings.specs.declared.control.Settings.{Settings}
+use Rattle.settings.specs.declared.Settings.{Settings}
 use Rattle.state.specs.Known.{Sound}
-use Rattle.state.specs.declared.modal.State.{State}
+use Rattle.state.specs.declared.State.{State}
 use Rattle.machine.specs.Blocks.{outcomeOf}
 use Rattle.machine.specs.declared.BlockDone.{BlockDone}
 use Rattle.machine.specs.declared.BlockOutcome.the-variants.{Done}

@@ -1,10 +1,10 @@
 // The blocks of a trial, run one after the other with the state and the count of records carried on, until one is refused.
 // What a block asks of the runner is not done: the next line is run, so that a trial shows what each block does by itself.
-use block::words::Head;
+use block::Head;
 use machine::BlockOutcome;
-use moves::record::Origin;
-use state::modal::State;
-use state::request::Request;
+use moves::Origin;
+use requests::Request;
+use state::State;
 ghost use mathlib.Core.Path.{_≡_};
 ghost use Prim.Native.Nat.{_≤_};
 ghost use lib.ListN.{length};
@@ -31,11 +31,11 @@ pub enum Came {
 fn begin() -> Tried
     ensures { λ r. ⌜ Sound (r .state) × (r .count ≡ 0) ⌝ }
 {
-    let set = settings::usual::of_listmoves();
+    let set = panel::of_listmoves();
     Tried {
         alarm: 0,
         next: Request::On,
-        state: state::modal::at_start(set.x, set.z),
+        state: state::at_start(set.x, set.z),
         count: 0,
     }
 }
@@ -62,18 +62,18 @@ fn run_line(line: &[u8], table: &[i32], before: Tried, buf: &mut [u8]) -> Came
     requires { ⌜ Table (now table) × (headerSize ≤ length (now buf)) × Carried (roomOf (length (now buf))) before ⌝ }
     ensures { λ r. ⌜ CameWith (roomOf (length (now (buf .entry)))) r ⌝ }
 {
-    if line.len() > block::words::LONGEST_LINE {
+    if line.len() > block::LONGEST_LINE {
         return Came::Unreadable;
     }
-    let read = block::words::read_line(line);
+    let read = block::read_line(line);
     let head = read.head;
     let b = read.block;
     let wrong = read.faulty | !is_block(head);
-    if wrong | rules::breaking::breaks_rules(b) {
+    if wrong | rules::breaks_rules(b) {
         return Came::Unreadable;
     }
     let state = before.state;
-    let set = settings::usual::of_listmoves();
+    let set = panel::of_listmoves();
     let outcome = machine::run_block(table, set, state, b, buf, before.count, nowhere());
     match outcome {
         BlockOutcome::Refused(alarm) => Came::Ran(Tried {
@@ -86,7 +86,7 @@ fn run_line(line: &[u8], table: &[i32], before: Tried, buf: &mut [u8]) -> Came
             let after = done.state;
             Came::Ran(Tried {
                 alarm: 0,
-                next: state::request::request_of(b),
+                next: requests::request_of(b),
                 state: after,
                 count: done.count,
             })
@@ -99,7 +99,7 @@ pub fn run_lines(lines: &[u8], buf: &mut [u8]) -> Came
     requires { ⌜ headerSize ≤ length (now buf) ⌝ }
     ensures { λ r. ⌜ CameWith (roomOf (length (now (buf .entry)))) r ⌝ }
 {
-    let table = settings::usual::no_offsets();
+    let table = panel::no_offsets();
     let mut tried = begin();
     let mut p = 0;
     while p < lines.len() {

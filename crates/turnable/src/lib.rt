@@ -1,9 +1,9 @@
 // Whether a turning cycle that is opened can go on. Every cursor that `turning` made can; one that comes back from a caller who kept it may have been changed,
 // and is asked here before its next record is.
-use turning::cursor::Cursor;
+use passes::Cursor;
 ghost use mathlib.Core.Path.{_≡_};
 ghost use mathlib.Core.Bool.{true};
-ghost use Rattle.turning.specs.Cursor.{Sound};
+ghost use Rattle.passes.specs.Cursor.{Sound};
 
 // The first number that 32 bits do not hold.
 const BEYOND_32: u64 = 4_294_967_296;

@@ -8,7 +8,7 @@ use lib.Dec.{eqb}
 use borrow.Author.Tests.{eqb-false}
 use Rattle.axes.specs.Axis.{net}
 use Rattle.axes.proofs.Places.{neither}
-use Rattle.turning.specs.declared.cycle.Turning.{Turning}
+use Rattle.turning.specs.declared.Turning.{Turning}
 use Rattle.turning.specs.Turning.{tooShort}
 
 some : (n : ℕ) → eqb n 0 ≡ false → 0 < n

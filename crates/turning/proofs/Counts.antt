@@ -10,19 +10,19 @@ use lib.ListN.{length, length-append}
 use mir.Syntax.{w32}
 use mir.Val.{SFits}
 use borrow.Author.Tests.{ne-eqb}
-use Rattle.whole.specs.declared.signed.Side.{Side}
+use Rattle.whole.specs.declared.Side.{Side}
 use Rattle.whole.specs.Signed.{along}
 use Rattle.division.specs.Division.{sum}
 use Rattle.whole.proofs.Sides.{along-add, along-zero}
 use Rattle.division.proofs.Divisions.{few-pieces, pieces-length, pieces-sum}
 use Rattle.whole.proofs.Integers.{whole, range, sub-in, abs}
 use Rattle.moves.specs.Form.{AllFitting}
-use Rattle.axes.specs.declared.axis.Axis.{Axis}
+use Rattle.axes.specs.declared.Axis.{Axis}
 use Rattle.axes.specs.Axis.{side, net, allowanceLine}
 use Rattle.axes.proofs.Fitting.{rapid-fitting, feed-fitting}
 use Rattle.axes.proofs.Axes.{line-net, line-fits}
-use Rattle.turning.specs.declared.cycle.Turning.{Turning}
-use Rattle.turning.specs.declared.passes.Pass.{Pass}
+use Rattle.turning.specs.declared.Turning.{Turning}
+use Rattle.turning.specs.declared.Pass.{Pass}
 use Rattle.turning.specs.Turning.{passCount, row, passFor, passOn, passes, turning, recordCount}
 use Rattle.turning.proofs.Turned.{some-passes}
 

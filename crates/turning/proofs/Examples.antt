@@ -8,7 +8,7 @@ use lib.IntN.{pos, negsuc}
 use Rattle.division.specs.Division.{count, pieces}
 use Rattle.moves.specs.Kinds.{rapid, feed}
 use Rattle.axes.specs.Goes.{rapidTo, feedTo}
-use Rattle.turning.specs.declared.cycle.Turning.{Turning}
+use Rattle.turning.specs.declared.Turning.{Turning}
 use Rattle.turning.specs.Turning.{tooShort, passCount, row, passOn, passes, turning, recordCount}
 
 -- block N20 of the listing, `G84 X30. Z-20. D0=400 D2=100 D3=2500 F120` from X40. Z2.: D0 and D3 are per side

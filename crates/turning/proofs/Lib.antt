@@ -5,4 +5,3 @@ pub mod RuledOut
 pub mod Asked
 pub mod Reach
 pub mod Counts
-pub mod Cursors

@@ -9,21 +9,21 @@ use native.Mathlib.Nat.{add-zero}
 use native.Mathlib.Omega.{arith}
 use lib.IntN.{ℤ, _+ℤ_}
 use lib.ListN.{length}
-use Rattle.whole.specs.declared.signed.Side.{Side}
+use Rattle.whole.specs.declared.Side.{Side}
 use Rattle.whole.specs.Signed.{along}
 use Rattle.division.specs.Division.{sum}
 use Rattle.whole.proofs.Sides.{along-add, along-zero}
 use Rattle.division.proofs.Divisions.{pieces-length, pieces-sum}
-use Rattle.moves.specs.declared.record.Record.{Record}
-use Rattle.settings.specs.declared.limits.Limits.{Limits}
+use Rattle.moves.specs.declared.Record.{Record}
+use Rattle.settings.specs.declared.Limits.{Limits}
 use Rattle.axes.specs.Axis.{side, net, allowanceLine}
 use Rattle.settings.specs.Limits.{outsideSpan}
 use Rattle.axes.specs.Limits.{outsideTo, anyOutside}
 use Rattle.axes.proofs.Axes.{line-net}
 use Rattle.axes.proofs.Reaching.{span-between}
 use Rattle.axes.proofs.Places.{alike, neither, both, inSpan, acrossSpan, within, not-outside, rapid-ends, feed-ends}
-use Rattle.turning.specs.declared.cycle.Turning.{Turning}
-use Rattle.turning.specs.declared.passes.Pass.{Pass}
+use Rattle.turning.specs.declared.Turning.{Turning}
+use Rattle.turning.specs.declared.Pass.{Pass}
 use Rattle.turning.specs.Turning.{passCount, row, passFor, passOn, passes, turning}
 use Rattle.turning.proofs.Turned.{some-passes}
 

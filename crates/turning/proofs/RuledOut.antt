@@ -10,10 +10,10 @@ use lib.ListN.{length}
 use Rattle.division.specs.Division.{Evenly}
 use Rattle.whole.proofs.Integers.{whole, up}
 use Rattle.division.proofs.RuledOut.{thin-last, copied-first}
-use Rattle.moves.specs.declared.record.Record.{Record}
+use Rattle.moves.specs.declared.Record.{Record}
 use Rattle.axes.specs.Axis.{side}
 use Rattle.axes.specs.Goes.{rapidTo, feedTo}
-use Rattle.turning.specs.declared.cycle.Turning.{Turning}
+use Rattle.turning.specs.declared.Turning.{Turning}
 use Rattle.turning.specs.Turning.{passFor, passOn, passes}
 use Rattle.turning.specs.Turned.{passLines, eachDepth, Depths, FeedsWithin, Turned}
 use Rattle.turning.proofs.Examples.{listed}

@@ -11,19 +11,19 @@ use lib.IntN.{ℤ, pos, _+ℤ_, _-ℤ_, natAbs, negℤ}
 use lib.ListN.{replicate}
 use lib.Signed.{_≤ℤ_}
 use borrow.Author.Tests.{lt-ltb, ne-eqb}
-use Rattle.whole.specs.declared.signed.Side.{Side}
-use Rattle.whole.specs.declared.signed.Side.the-variants.{Minus, Zero, Plus}
+use Rattle.whole.specs.declared.Side.{Side}
+use Rattle.whole.specs.declared.Side.the-variants.{Minus, Zero, Plus}
 use Rattle.whole.specs.Signed.{along}
 use Rattle.division.specs.Division.{count, pieces, divided, sum, Evenly}
 use Rattle.whole.proofs.Integers.{whole, add-in, sub-in, up-neg, down-neg, abs}
 use Rattle.whole.proofs.Sides.{along-add, along-zero}
 use Rattle.division.proofs.Divisions.{evenly, pieces-sum, count-above}
-use Rattle.moves.specs.declared.record.Record.{Record}
-use Rattle.axes.specs.declared.axis.Axis.{Axis}
+use Rattle.moves.specs.declared.Record.{Record}
+use Rattle.axes.specs.declared.Axis.{Axis}
 use Rattle.axes.specs.Axis.{side, net, allowanceLine}
 use Rattle.axes.specs.Goes.{rapidTo, feedTo, inwardOf, acrossOf}
 use Rattle.axes.proofs.Axes.{line-net, Sided, sided}
-use Rattle.turning.specs.declared.cycle.Turning.{Turning}
+use Rattle.turning.specs.declared.Turning.{Turning}
 use Rattle.turning.specs.Turning.{passCount, row, passFor, passOn, passes, turning}
 use Rattle.turning.specs.Turned.{feedKind, passLines, beyond, eachDepth, NotPast, Within, Feeds, FeedsWithin, Turned}
 

@@ -8,14 +8,14 @@ use Prim.Native.Nat.{ℕ, _<_}
 use lib.Dec.{ltb, eqb}
 use lib.IntN.{ℤ, pos, _-ℤ_, natAbs}
 use lib.Signed.{_≤ℤ_}
-use Rattle.whole.specs.declared.signed.Side.{Side}
-use Rattle.whole.specs.declared.signed.Side.the-variants.{Minus, Zero, Plus}
+use Rattle.whole.specs.declared.Side.{Side}
+use Rattle.whole.specs.declared.Side.the-variants.{Minus, Zero, Plus}
 use Rattle.division.specs.Division.{Evenly}
-use Rattle.moves.specs.declared.record.Record.{Record}
-use Rattle.axes.specs.declared.axis.Axis.{Axis}
+use Rattle.moves.specs.declared.Record.{Record}
+use Rattle.axes.specs.declared.Axis.{Axis}
 use Rattle.axes.specs.Axis.{side, net, allowanceLine}
 use Rattle.axes.specs.Goes.{inwardOf, acrossOf}
-use Rattle.turning.specs.declared.cycle.Turning.{Turning}
+use Rattle.turning.specs.declared.Turning.{Turning}
 
 -- ---- reading the records
 -- a feed record

@@ -5,14 +5,14 @@ use mathlib.Core.List.{List, [], _∷_, _++_}
 use Prim.Native.Nat.{ℕ, _*_}
 use lib.Dec.{eqb}
 use lib.IntN.{ℤ, _+ℤ_}
-use Rattle.whole.specs.declared.signed.Side.{Side}
+use Rattle.whole.specs.declared.Side.{Side}
 use Rattle.whole.specs.Signed.{along}
 use Rattle.division.specs.Division.{count, pieces}
-use Rattle.moves.specs.declared.record.Record.{Record}
+use Rattle.moves.specs.declared.Record.{Record}
 use Rattle.axes.specs.Axis.{side, net, allowanceLine}
 use Rattle.axes.specs.Goes.{rapidTo, feedTo}
-use Rattle.turning.specs.declared.cycle.Turning.{Turning}
-use Rattle.turning.specs.declared.passes.Pass.{Pass}
+use Rattle.turning.specs.declared.Turning.{Turning}
+use Rattle.turning.specs.declared.Pass.{Pass}
 
 -- A CYCLE { facing, infeed, path, division, f, g95 } goes in along `infeed` and cuts along `path`. Longitudinal these are X and Z, facing Z and X.
 -- "E and the shortened length must be at least 1" (else alarm 19)

@@ -9,10 +9,10 @@ use lib.Dec.{eqb}
 use lib.IntN.{ℤ}
 use lib.ListN.{length}
 use borrow.Author.Tests.{eqb-true, eqb-false, eq-eqb, ne-eqb}
-use Rattle.block.specs.declared.words.Block.{Block}
-use Rattle.settings.specs.declared.control.Settings.{Settings}
+use Rattle.block.specs.declared.Block.{Block}
+use Rattle.settings.specs.declared.Settings.{Settings}
 use Rattle.state.specs.Modal.{settled}
-use Rattle.state.specs.declared.modal.State.{State}
+use Rattle.state.specs.declared.State.{State}
 use Rattle.asking.specs.Judge.{doing}
 use Rattle.deeds.specs.Known.{Right}
 use Rattle.asking.proofs.Judging.{Passed, passed, all-right, counted}

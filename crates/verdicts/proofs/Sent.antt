@@ -15,15 +15,15 @@ use Rattle.whole.proofs.Positions.{in-range}
 use Rattle.block.specs.Worded.{Worded}
 use Rattle.block.specs.Slots.{iSlot, kSlot, fSlot, has, codeIn, gIn}
 use Rattle.state.specs.Modal.{feedAfter, settled, blockMotion}
-use Rattle.state.specs.Target.{offsetOf, targetX, targetZ}
+use Rattle.targets.specs.Target.{offsetOf, targetX, targetZ}
 use Rattle.state.specs.Known.{Numbers, Sound, Sent}
-use Rattle.state.proofs.Sending.{table-fits, Offset, offset-x, offset-z}
-use Rattle.state.proofs.Ranges.{settled-sound, sent-by, near-x, near-z}
-use Rattle.block.specs.declared.words.Block.{Block}
+use Rattle.targets.proofs.Sending.{table-fits, Offset, offset-x, offset-z}
+use Rattle.targets.proofs.Ranges.{settled-sound, sent-by, near-x, near-z}
+use Rattle.block.specs.declared.Block.{Block}
 use Rattle.settings.specs.Known.{Table, InRange}
-use Rattle.settings.specs.declared.control.Settings.{Settings}
-use Rattle.state.specs.declared.modal.State.{State}
-use Rattle.state.specs.declared.target.Pair.{Pair}
+use Rattle.settings.specs.declared.Settings.{Settings}
+use Rattle.state.specs.declared.State.{State}
+use Rattle.targets.specs.declared.Pair.{Pair}
 use Rattle.scaling.specs.Known.{Small}
 use Rattle.deeds.specs.Known.{Centred}
 use Rattle.deeds.proofs.Made.{Sends, known as deed-known}

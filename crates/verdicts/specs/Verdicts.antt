@@ -5,14 +5,14 @@ use mathlib.Core.List.{List}
 use Prim.Native.Nat.{ℕ}
 use lib.Dec.{eqb}
 use lib.IntN.{ℤ}
-use Rattle.block.specs.declared.words.Block.{Block}
-use Rattle.settings.specs.declared.control.Settings.{Settings}
+use Rattle.block.specs.declared.Block.{Block}
+use Rattle.settings.specs.declared.Settings.{Settings}
 use Rattle.state.specs.Modal.{settled, blockMotion}
-use Rattle.state.specs.Target.{offsetOf, targetX, targetZ}
-use Rattle.state.specs.declared.modal.State.{State}
+use Rattle.targets.specs.Target.{offsetOf, targetX, targetZ}
+use Rattle.state.specs.declared.State.{State}
 use Rattle.deeds.specs.Deed.{deedOf}
 use Rattle.asking.specs.Judge.{asksOf, alarmOf}
-use Rattle.deeds.specs.declared.deed.Deed.{Deed}
+use Rattle.deeds.specs.declared.Deed.{Deed}
 use Rattle.scaling.specs.declared.Sending.{Sending}
 use Rattle.asking.specs.declared.Asked.{Asked}
 use Rattle.asking.specs.declared.Asks.{Asks}

@@ -1,11 +1,11 @@
 // A block, judged: its words act, its deed is worked out, and its alarm is asked for, in the paper's order 15, 16, 17, 19, 18, 20. Nothing is written, and no buffer is lent.
 // (01: "A block's own G and T words act before its move"; "then blocks as run: .. 15, 16, 17, 19, 18, 20".)
 use asking::Asked;
-use block::words::Block;
-use deeds::deed::Deed;
+use block::Block;
+use deeds::Deed;
 use scaling::Sending;
-use settings::control::Settings;
-use state::modal::State;
+use settings::Settings;
+use state::State;
 ghost use mathlib.Core.Path.{_≡_};
 ghost use Rattle.block.specs.Worded.{Worded};
 ghost use Rattle.state.specs.Modal.{settled};
@@ -33,12 +33,12 @@ fn sending_of(table: &[i32], set: Settings, s: State, t: State, b: Block) -> Sen
     requires { ⌜ Table (now table) × Sound s × Worded b × (t ≡ settled s b) ⌝ }
     ensures { λ r. ⌜ r ≡ sendingOf (now (table .entry)) set s b ⌝ }
 {
-    let offset = state::target::offset_of(table, t);
+    let offset = targets::offset_of(table, t);
     Sending {
         x: t.x,
         z: t.z,
-        x_target: state::target::target_x(t, b, offset.x),
-        z_target: state::target::target_z(t, b, offset.z),
+        x_target: targets::target_x(t, b, offset.x),
+        z_target: targets::target_z(t, b, offset.z),
         f: t.f,
         g95: t.g95,
         retract: set.retract,
@@ -52,9 +52,9 @@ fn deed_in(table: &[i32], set: Settings, s: State, t: State, b: Block) -> Deed
     ensures { λ r. ⌜ (r ≡ deedIn (now (table .entry)) set s b) × Known r ⌝ }
 {
     let before = s.motion;
-    let motion = state::modal::block_motion(before, b);
+    let motion = state::block_motion(before, b);
     let sending = sending_of(table, set, s, t, b);
-    deeds::deed::deed_of(motion, b, sending)
+    deeds::deed_of(motion, b, sending)
 }
 
 // What is asked beside the deed, where so many records have room.
@@ -76,7 +76,7 @@ pub fn judge_block(table: &[i32], set: Settings, s: State, b: Block, room: u32) 
     requires { ⌜ Table (now table) × InRange set × Sound s × Worded b ⌝ }
     ensures { λ r. ⌜ (r ≡ verdictOf (now (table .entry)) set s b room) × verdict.Known r ⌝ }
 {
-    let settled = state::modal::settle(s, b);
+    let settled = state::settle(s, b);
     let deed = deed_in(table, set, s, settled, b);
     let limits = set.limits;
     let asks = asking::asks_of(deed, limits);

@@ -3,5 +3,3 @@ pub mod Integers
 pub mod Held
 pub mod Sides
 pub mod Positions
-pub mod LittleEndian
-pub mod Laying

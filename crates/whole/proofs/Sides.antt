@@ -7,8 +7,8 @@ use lib.IntN.{ℤ, pos, negsuc, negℤ, natAbs, _+ℤ_, _-ℤ_, +ℤ-idr}
 use mir.Syntax.{Width}
 use mir.Val.{SFits}
 use Rattle.whole.specs.Signed.{sideOf, along}
-use Rattle.whole.specs.declared.signed.Side.{Side}
-use Rattle.whole.specs.declared.signed.Side.the-variants.{Minus, Zero, Plus}
+use Rattle.whole.specs.declared.Side.{Side}
+use Rattle.whole.specs.declared.Side.the-variants.{Minus, Zero, Plus}
 use Rattle.whole.proofs.Integers.{up, down, whole, add-in, sub-in, up-neg, down-neg, range, fits}
 
 -- a number is its size to its side

@@ -1,5 +1,4 @@
 -- The definitions that the contracts of this crate cite, and those of the crates built on it.
 pub mod Signed
 pub mod Position
-pub mod Bytes
 pub mod Among

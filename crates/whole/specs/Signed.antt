@@ -1,8 +1,8 @@
 -- A whole number is a length to a side of zero.
 use Prim.Native.Nat.{ℕ, zero, suc}
 use lib.IntN.{ℤ, pos, negsuc, negℤ}
-use Rattle.whole.specs.declared.signed.Side.{Side}
-use Rattle.whole.specs.declared.signed.Side.the-variants.{Minus, Zero, Plus}
+use Rattle.whole.specs.declared.Side.{Side}
+use Rattle.whole.specs.declared.Side.the-variants.{Minus, Zero, Plus}
 
 -- a number below zero by its size: `minus 9_999_999` is -9,999,999
 abbrev pub minus : ℕ → ℤ

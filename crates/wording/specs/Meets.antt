@@ -3,13 +3,13 @@ use mathlib.Core.Path.{_≡_}
 use Prim.Native.Nat.{ℕ, _+_}
 use lib.ListN.{length}
 use Rattle.moves.specs.Form.{stamped}
-use Rattle.moves.specs.declared.record.Origin.{Origin}
-use Rattle.block.specs.declared.words.Block.{Block}
+use Rattle.moves.specs.declared.Origin.{Origin}
+use Rattle.block.specs.declared.Block.{Block}
 use Rattle.writing.specs.Writes.{done, writes}
 use Rattle.verdicts.specs.declared.Going.{Going}
 use Rattle.ahead.specs.declared.Onward.{Onward}
-use Rattle.taking.specs.declared.step.Run.{Run}
-use Rattle.taking.specs.declared.step.Opened.{Opened}
+use Rattle.taking.specs.declared.Run.{Run}
+use Rattle.taking.specs.declared.Opened.{Opened}
 use Rattle.taking.specs.Hands.{inHand, HandSound}
 use Rattle.taking.specs.Meets.{wentBy}
 

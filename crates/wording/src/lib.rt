@@ -1,15 +1,15 @@
 // A block that is opened by its words: alarms 13, 14, 10, 11 and 12, and then those of the block itself.
 use ahead::Frame;
 use ahead::Onward;
-use block::words::Block;
-use deeds::deed::Deed;
+use block::Block;
+use deeds::Deed;
 use finding::BlockAt;
-use moves::record::Origin;
-use settings::control::Settings;
-use state::modal::State;
-use taking::step::Hand;
-use taking::step::Opened;
-use taking::step::Run;
+use moves::Origin;
+use settings::Settings;
+use state::State;
+use taking::Hand;
+use taking::Opened;
+use taking::Run;
 use verdicts::Going;
 use verdicts::Verdict;
 ghost use mathlib.Core.Path.{_≡_};
@@ -33,10 +33,10 @@ fn words_of(line: &[u8], behind: usize) -> Block
     requires { ⌜ Starts (now line) behind ⌝ }
     ensures { λ r. ⌜ r ≡ blockIn (now (line .entry)) ⌝ }
 {
-    if line.len() > block::words::LONGEST_LINE {
-        return block::words::no_words();
+    if line.len() > block::LONGEST_LINE {
+        return block::no_words();
     }
-    let rest = block::words::read_rest(line, behind);
+    let rest = block::read_rest(line, behind);
     rest.block
 }
 
@@ -56,7 +56,7 @@ fn onward_of(
     if left == 0 {
         return Onward::Stop(alarms::TOO_MANY_BEGUN, frame.at);
     }
-    let next = state::request::request_of(b);
+    let next = requests::request_of(b);
     ahead::look_up(places, count, set, frame, next)
 }
 

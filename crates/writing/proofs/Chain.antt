@@ -5,12 +5,12 @@ use mathlib.Core.List.{List, _++_}
 use Prim.Native.Nat.{_+_}
 use native.Mathlib.Omega.{arith}
 use lib.ListN.{length, length-append}
-use Rattle.moves.specs.declared.record.Record.{Record}
+use Rattle.moves.specs.declared.Record.{Record}
 use Rattle.block.specs.Slots.{has, sSlot, tSlot, spindleSlot, flowSlot, coolantSlot}
-use Rattle.block.specs.declared.words.Block.{Block}
-use Rattle.state.specs.declared.modal.State.{State}
+use Rattle.block.specs.declared.Block.{Block}
+use Rattle.state.specs.declared.State.{State}
 use Rattle.asking.specs.Judge.{doing}
-use Rattle.deeds.specs.declared.deed.Deed.{Deed}
+use Rattle.deeds.specs.declared.Deed.{Deed}
 use Rattle.writing.specs.Writes.{speedOf, toolOf, mOf, speedAndTool, spindleAndCoolant, done, stops, stopping, writes, otherCount}
 use Rattle.writing.proofs.Rows.{one-length, two-length}
 

@@ -1,18 +1,18 @@
 // The records of a block in their order, how many they are, and the state after it. (01: "Records of a block, in order: speed if S, tool if T, M of group 0, M of group 3, motion or dwell, then
 // M00 or M30. M17 gives none.") `handing` hands them out one after the other, and `putting` writes them.
-use block::words::Block;
-use deeds::deed::Deed;
-use state::modal::State;
+use block::Block;
+use deeds::Deed;
+use state::State;
 ghost use mathlib.Core.Path.{_≡_};
 ghost use Prim.Native.Nat.{_≤_};
 ghost use Rattle.writing.specs.Writes.{numberIf, moved, done, stops, otherCount};
 
 // The groups of the M words: M03 M04 M05; M08 M09; M00 M17 M30.
-const SPINDLE: usize = block::words::SPINDLE;
+const SPINDLE: usize = block::SPINDLE;
 
-const COOLANT: usize = block::words::COOLANT;
+const COOLANT: usize = block::COOLANT;
 
-const FLOW: usize = block::words::FLOW;
+const FLOW: usize = block::FLOW;
 
 // A state that stands elsewhere.
 fn moved(s: State, due: bool, x: i32, z: i32) -> State
@@ -59,8 +59,8 @@ pub fn done_of(s: State, d: Deed) -> State
 pub fn stops(b: Block) -> bool
     ensures { λ r. ⌜ r ≡ stops b ⌝ }
 {
-    let code = block::words::m_in(b, FLOW);
-    block::words::has(b, FLOW) & !acts::acting::returns_by(code)
+    let code = block::m_in(b, FLOW);
+    block::has(b, FLOW) & !acts::returns_by(code)
 }
 
 fn number_if(wanted: bool) -> u32
@@ -73,10 +73,10 @@ fn number_if(wanted: bool) -> u32
 pub fn other_count(b: Block) -> u32
     ensures { λ r. ⌜ (r ≡ otherCount b) × (r ≤ 5) ⌝ }
 {
-    let speed = number_if(block::words::has(b, block::words::S));
-    let tool = number_if(block::words::has(b, block::words::T));
-    let spindle = number_if(block::words::has(b, SPINDLE));
-    let coolant = number_if(block::words::has(b, COOLANT));
+    let speed = number_if(block::has(b, block::S));
+    let tool = number_if(block::has(b, block::T));
+    let spindle = number_if(block::has(b, SPINDLE));
+    let coolant = number_if(block::has(b, COOLANT));
     let stop = number_if(stops(b));
     speed + tool + (spindle + coolant) + stop
 }

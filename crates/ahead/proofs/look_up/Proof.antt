@@ -5,8 +5,8 @@ use Prim.Native.Nat.{ℕ}
 use Rattle.places.specs.Places.{Row}
 use Rattle.places.specs.declared.Found.{Found}
 use Rattle.places.specs.declared.Found.the-variants.{Nowhere}
-use Rattle.settings.specs.declared.control.Settings.{Settings}
-use Rattle.state.specs.declared.request.Request.{Request}
+use Rattle.settings.specs.declared.Settings.{Settings}
+use Rattle.requests.specs.declared.Request.{Request}
 use borrow.Author.Needs.{needs}
 use borrow.Author.Tests.{eq-eqb, ne-eqb}
 use Rattle.ahead.specs.Ahead.{lookedBy, lookedUpIn, LooksUp}

@@ -2,7 +2,7 @@
 use mathlib.Core.Path.{sym, _∙_}
 use denote.Ref.{now}
 use borrow.Author.Needs.{needs}
-use Rattle.settings.proofs.Rows.{all-there}
+use Rattle.panel.proofs.Rows.{all-there}
 use Rattle.board.proofs.Doors.{refused-here, ran-here, answer-fits}
 use Rattle.board.proofs.tm02_interpret.Statement.{statement}
 use Rattle.board.proofs.tm02_interpret.Tie as tie

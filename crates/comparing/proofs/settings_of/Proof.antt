@@ -4,7 +4,7 @@ use lib.IntN.{ℤ}
 use mir.Syntax.{w32}
 use mir.Facts.{toZ-ofZ}
 use borrow.Author.Needs.{needs, sfits-of}
-use Rattle.settings.specs.Row.{mainAt, lowestSubroutineAt, retractAt, startXAt, startZAt, xLowestAt, xHighestAt, zLowestAt, zHighestAt, emptyCutsAt, pointsAt}
+use Rattle.panel.specs.Row.{mainAt, lowestSubroutineAt, retractAt, startXAt, startZAt, xLowestAt, xHighestAt, zLowestAt, zHighestAt, emptyCutsAt, pointsAt}
 use Rattle.comparing.specs.Door.{settingAt}
 use Rattle.comparing.proofs.settings_of.Statement.{statement}
 use Rattle.comparing.proofs.settings_of.Tie as tie

@@ -2,8 +2,8 @@
 use mathlib.Core.Path.{sym, ap, _∙_}
 use Prim.Native.Nat.{ℕ}
 use native.Mathlib.Omega.{arith}
-use Rattle.drilling.specs.Bites.{biting, hasZero}
-use Rattle.drilling.proofs.Rows.{zero-found}
+use Rattle.bites.specs.Bites.{biting, hasZero}
+use Rattle.bites.proofs.Rows.{zero-found}
 use Rattle.drillable.proofs.Fit.{none-left}
 use borrow.Author.Needs.{needs}
 use Rattle.drillable.proofs.has_zero.Statement.{statement}

@@ -3,7 +3,7 @@ use mathlib.Core.Path.{_≡_, sym, _∙_}
 use mathlib.Core.Bool.{false}
 use Prim.Native.Nat.{_+_, _≤_}
 use native.Mathlib.Omega.{arith}
-use Rattle.drilling.specs.Bites.{hasZero}
+use Rattle.bites.specs.Bites.{hasZero}
 use Rattle.drilling.specs.Drilling.{strokeOf}
 use Rattle.bores.specs.Cursor.{bitesOf}
 use Rattle.telling.proofs.Tells.{never, tells-no}

@@ -2,9 +2,9 @@
 use mathlib.Core.Path.{_≡_}
 use borrow.Author.Needs.{needs}
 use Rattle.telling.proofs.Tells.{tells-yes, tells-some, tells-of}
-use Rattle.bores.specs.declared.cursor.Stage.{Stage}
-use Rattle.bores.specs.declared.cursor.Stage.the-variants.{Bite, Home, Back, Dwell, Out, Over}
-use Rattle.bores.specs.declared.cursor.Cursor.{Cursor}
+use Rattle.bores.specs.declared.Stage.{Stage}
+use Rattle.bores.specs.declared.Stage.the-variants.{Bite, Home, Back, Dwell, Out, Over}
+use Rattle.bores.specs.declared.Cursor.{Cursor}
 use Rattle.bores.specs.Cursor.{Ready}
 use Rattle.drillable.proofs.is_ready.Statement.{statement}
 use Rattle.drillable.proofs.is_ready.Tie as tie

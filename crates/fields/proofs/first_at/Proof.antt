@@ -4,7 +4,7 @@ use denote.Ref.{now}
 use borrow.Author.Needs.{needs}
 use Rattle.moves.specs.Reading.{recordIn}
 use Rattle.lawful.specs.Versions.{startIn}
-use Rattle.lawful.specs.declared.versions.Version.the-variants.{One}
+use Rattle.lawful.specs.declared.Version.the-variants.{One}
 use Rattle.fields.proofs.Taking.{part-is}
 use Rattle.fields.proofs.first_at.Statement.{statement}
 use Rattle.fields.proofs.first_at.Tie as tie

@@ -4,7 +4,7 @@ use lib.ListN.{getD}
 use mir.Syntax.{w32}
 use mir.Val.{toZ, ofZ}
 use borrow.Author.Needs.{needs}
-use Rattle.whole.specs.Bytes.{valueOf, signedOf}
+use Rattle.octets.specs.Bytes.{valueOf, signedOf}
 use Rattle.moves.specs.Kinds.{flagged}
 use Rattle.moves.specs.Reading.{recordIn}
 use Rattle.fields.proofs.record_in.Statement.{statement}

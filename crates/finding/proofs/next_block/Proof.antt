@@ -7,7 +7,7 @@ use native.Mathlib.Omega.{arith}
 use borrow.Author.Needs.{needs}
 use Rattle.tape.specs.Lines.{lines}
 use Rattle.block.specs.Words.{StartIn}
-use Rattle.block.specs.declared.words.LineStart.{LineStart}
+use Rattle.block.specs.declared.LineStart.{LineStart}
 use Rattle.block.proofs.Lines.{headFrom}
 use Rattle.finding.specs.declared.Here.{Here}
 use Rattle.finding.specs.Finding.{AnyBlock, hereOf, foundBy, firstBlock, nextBlock}

@@ -7,11 +7,11 @@ use mir.Facts.{toZ-ofZ}
 use mir.Syntax.{w32}
 use mir.Val.{SFits, toZ, ofZ}
 use Rattle.telling.proofs.Tells.{Tells, tells-no, told-no, tells-of}
-use Rattle.whole.specs.declared.signed.Side.the-variants.{Minus}
+use Rattle.whole.specs.declared.Side.the-variants.{Minus}
 use Rattle.whole.specs.Signed.{along}
 use Rattle.division.specs.Division.{sum}
 use Rattle.division.specs.Carried.{rowOf}
-use Rattle.plunges.specs.declared.cursor.Cursor.{Cursor}
+use Rattle.plunges.specs.declared.Cursor.{Cursor}
 use Rattle.groovable.proofs.Fit.{apart, Parts, tells-sound}
 use borrow.Author.Needs.{needs}
 use borrow.Author.Tests.{not-true, not-false}

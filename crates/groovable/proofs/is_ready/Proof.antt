@@ -2,9 +2,9 @@
 use mathlib.Core.Path.{_≡_}
 use borrow.Author.Needs.{needs}
 use Rattle.telling.proofs.Tells.{tells-yes, tells-some, tells-of}
-use Rattle.plunges.specs.declared.cursor.Stage.{Stage}
-use Rattle.plunges.specs.declared.cursor.Stage.the-variants.{Cut, Back, Dwell, Out, Across, Over}
-use Rattle.plunges.specs.declared.cursor.Cursor.{Cursor}
+use Rattle.plunges.specs.declared.Stage.{Stage}
+use Rattle.plunges.specs.declared.Stage.the-variants.{Cut, Back, Dwell, Out, Across, Over}
+use Rattle.plunges.specs.declared.Cursor.{Cursor}
 use Rattle.plunges.specs.Cursor.{Ready}
 use Rattle.groovable.proofs.is_ready.Statement.{statement}
 use Rattle.groovable.proofs.is_ready.Tie as tie

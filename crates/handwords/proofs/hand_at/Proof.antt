@@ -1,8 +1,8 @@
 -- `handwords::hand_at` meets its contract.
 use mathlib.Core.Path.{refl, sym, subst}
 use borrow.Author.Needs.{needs}
-use Rattle.stages.specs.declared.cursor.Stage.{Stage}
-use Rattle.stages.specs.declared.cursor.Due.the-variants.{Single}
+use Rattle.stages.specs.declared.Stage.{Stage}
+use Rattle.stages.specs.declared.Due.the-variants.{Single}
 use Rattle.handwords.specs.Due.{Hands}
 use Rattle.handwords.proofs.hand_at.Statement.{statement}
 use Rattle.handwords.proofs.hand_at.Tie as tie

@@ -2,7 +2,7 @@
 use mathlib.Core.Path.{ap}
 use borrow.Author.Needs.{needs}
 use borrow.Author.Tests.{eq-eqb, ne-eqb}
-use Rattle.stages.specs.declared.cursor.Due.the-variants.{Turning, Threading, Grooving, Drilling, Single}
+use Rattle.stages.specs.declared.Due.the-variants.{Turning, Threading, Grooving, Drilling, Single}
 use Rattle.handwords.specs.Due.{slotOf}
 use Rattle.handwords.proofs.slot_of.Statement.{statement}
 use Rattle.handwords.proofs.slot_of.Tie as tie

@@ -8,7 +8,7 @@ use denote.Ref.{now}
 use borrow.Author.Needs.{needs}
 use Rattle.moves.specs.Form.{zerosAt}
 use Rattle.moves.specs.Reading.{recordIn}
-use Rattle.moves.specs.declared.record.Record.{Record}
+use Rattle.moves.specs.declared.Record.{Record}
 use Rattle.moves.specs.Kinds.{inTurn}
 use Rattle.lawful.specs.Right.{isRight}
 use Rattle.judging.proofs.Judges.{some-not, none-not}

@@ -2,7 +2,7 @@
 use mathlib.Core.Path.{sym, _∙_}
 use borrow.Author.Needs.{needs}
 use denote.Ref.{now}
-use Rattle.settings.proofs.Rows.{all-there}
+use Rattle.panel.proofs.Rows.{all-there}
 use Rattle.onemove.proofs.Starting.{begun-refused, begun-started}
 use Rattle.onemove.proofs.begun.Statement.{statement}
 use Rattle.onemove.proofs.begun.Tie as tie

@@ -1,7 +1,7 @@
 -- `onemove::give_one` meets its contract.
 use borrow.Author.Needs.{needs}
 use denote.Ref.{now}
-use Rattle.taking.specs.declared.step.Hand.the-variants.{Block}
+use Rattle.taking.specs.declared.Hand.the-variants.{Block}
 use Rattle.onemove.proofs.Giving.{one-last, one-more}
 use Rattle.onemove.proofs.give_one.Statement.{statement}
 use Rattle.onemove.proofs.give_one.Tie as tie

@@ -6,14 +6,14 @@ use borrow.Author.Needs.{needs}
 use borrow.Author.Tests.{not-true, not-false}
 use denote.Ref.{now}
 use Rattle.settings.specs.Points.{withPoints}
-use Rattle.settings.specs.declared.control.Settings.{Settings}
+use Rattle.settings.specs.declared.Settings.{Settings}
 use Rattle.settings.specs.Wrong.{settingsWrong}
 use Rattle.settings.specs.Known.{Right}
-use Rattle.settings.proofs.Rows.{all-there}
+use Rattle.panel.proofs.Rows.{all-there}
 use Rattle.settings.proofs.Right.{right, right-points}
 use Rattle.telling.proofs.Tells.{told-no}
 use Rattle.runwords.specs.Taken.{goingOf}
-use Rattle.runwords.proofs.Keeping.{kept-small}
+use Rattle.runbounds.proofs.Keeping.{kept-small}
 use Rattle.paused.specs.declared.Going.{Going}
 use Rattle.inhand.specs.State.{runIn}
 use Rattle.onemove.proofs.Asking.{to-end, run-is, unfit-ask, wrong-ask, cannot-ask, turned-ask}

@@ -9,7 +9,7 @@ use borrow.Author.Needs.{needs}
 use borrow.Author.Tests.{not-true, not-false}
 use denote.Ref.{now}
 use Rattle.runwords.specs.Taken.{phaseOf}
-use Rattle.taking.specs.declared.step.Hand.the-variants.{Nothing}
+use Rattle.taking.specs.declared.Hand.the-variants.{Nothing}
 use Rattle.inhand.specs.State.{stateWords, handIn, runIn}
 use Rattle.onemove.proofs.Asking.{to-end, empty-hand, run-phase, given-ask, not-given-ask, over-ask, next-other, next-short, next-asks}
 use Rattle.onemove.proofs.next.Statement.{statement}

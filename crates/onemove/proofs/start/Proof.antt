@@ -1,7 +1,7 @@
 -- `onemove::start` meets its contract.
 use borrow.Author.Needs.{needs}
 use denote.Ref.{now}
-use Rattle.runwords.proofs.Keeping.{kept-small}
+use Rattle.runbounds.proofs.Keeping.{kept-small}
 use Rattle.onemove.proofs.Starting.{not-started, started}
 use Rattle.onemove.proofs.start.Statement.{statement}
 use Rattle.onemove.proofs.start.Tie as tie

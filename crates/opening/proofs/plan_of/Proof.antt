@@ -4,7 +4,7 @@ use mir.Syntax.{w32}
 use mir.Val.{SFits}
 use mir.Facts.{toZ-ofZ}
 use borrow.Author.Needs.{needs}
-use Rattle.state.specs.declared.modal.State.{State}
+use Rattle.state.specs.declared.State.{State}
 use Rattle.opening.proofs.plan_of.Statement.{statement}
 use Rattle.opening.proofs.plan_of.Tie as tie
 

@@ -8,13 +8,13 @@ use Prim.Native.Nat.{ℕ, _+_, _-_, _*_, _≤_}
 use native.Mathlib.Omega.{arith}
 use lib.ListN.{length}
 use borrow.Rule.Slice.PartMut.{putMid}
-use Rattle.whole.proofs.Laying.{lent}
-use Rattle.moves.specs.declared.record.Record.{Record}
+use Rattle.octets.proofs.Laying.{lent}
+use Rattle.moves.specs.declared.Record.{Record}
 use Rattle.moves.specs.Form.{recordSize, rowFrom}
 use Rattle.moves.specs.Written.{Written}
 use Rattle.moves.proofs.Written.{none-written, some-written, some-room, some-less, all-written, written-end, written-length}
-use Rattle.turning.specs.Cursor.{restOf, beforePass, Sound, passRow}
-use Rattle.turning.proofs.Cursors.{rest-none}
+use Rattle.passes.specs.Cursor.{restOf, beforePass, Sound, passRow}
+use Rattle.passes.proofs.Cursors.{rest-none}
 use Rattle.passing.proofs.put_passes.Statement.{statement}
 use Rattle.passing.proofs.put_passes.Tie as tie
 

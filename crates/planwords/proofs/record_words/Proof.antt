@@ -4,7 +4,7 @@ use mir.Syntax.{w32}
 use mir.Val.{SFits}
 use mir.Facts.{toZ-ofZ}
 use borrow.Author.Needs.{needs}
-use Rattle.moves.specs.declared.record.Record.{Record}
+use Rattle.moves.specs.declared.Record.{Record}
 use Rattle.planwords.proofs.record_words.Statement.{statement}
 use Rattle.planwords.proofs.record_words.Tie as tie
 

@@ -4,7 +4,7 @@ use mir.Syntax.{w32}
 use mir.Val.{SFits}
 use mir.Facts.{toZ-ofZ}
 use borrow.Author.Needs.{needs}
-use Rattle.stages.specs.declared.cursor.Plan.{Plan}
+use Rattle.stages.specs.declared.Plan.{Plan}
 use Rattle.planwords.proofs.tail_words.Statement.{statement}
 use Rattle.planwords.proofs.tail_words.Tie as tie
 

@@ -4,7 +4,7 @@ use borrow.Author.Tests.{not-true, not-false}
 use mathlib.Core.Path.{sym, _∙_}
 use Prim.Native.Nat.{_+_, _≤_}
 use lib.ListN.{length}
-use Rattle.whole.proofs.Laying.{lent}
+use Rattle.octets.proofs.Laying.{lent}
 use Rattle.moves.specs.Form.{recordSize, recordBytes, listed}
 use Rattle.moves.proofs.Written.{none-written, one-written, written-room}
 use Rattle.plunges.specs.Cursor.{restOf}

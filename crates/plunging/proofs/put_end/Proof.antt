@@ -6,7 +6,7 @@ use Prim.Native.Nat.{ℕ, _+_, _-_, _*_, _^_, _<_, _≤_}
 use native.Mathlib.Omega.{arith}
 use lib.ListN.{length}
 use borrow.Rule.Slice.PartMut.{putMid}
-use Rattle.whole.proofs.Laying.{lent}
+use Rattle.octets.proofs.Laying.{lent}
 use Rattle.moves.specs.Form.{recordSize, recordBytes, listed}
 use Rattle.moves.specs.Written.{Written}
 use Rattle.moves.proofs.Written.{none-written, one-written, written-on, written-room, left-room, left-few, written-length}

@@ -7,11 +7,11 @@ use mathlib.Core.Bool.{true}
 use Prim.Native.Nat.{_+_, _*_, _≤_}
 use native.Mathlib.Omega.{arith}
 use lib.ListN.{length}
-use Rattle.whole.proofs.Laying.{lent}
+use Rattle.octets.proofs.Laying.{lent}
 use Rattle.moves.specs.Form.{recordSize, rowFrom}
 use Rattle.moves.specs.Written.{Written}
 use Rattle.moves.proofs.Written.{none-written, some-written, written-on, all-written, written-end, some-room, left-room, written-length, some-less, left-few}
-use Rattle.plunges.specs.declared.cursor.Stage.the-variants.{Cut}
+use Rattle.plunges.specs.declared.Stage.the-variants.{Cut}
 use Rattle.plunges.specs.Cursor.{restOf, beforeCut, Sound, cutRow}
 use Rattle.plunges.proofs.Cursors.{rest-none, cut-next-is}
 use Rattle.plunging.proofs.put_plunges.Statement.{statement}

@@ -8,8 +8,8 @@ use Prim.Native.Nat.{_+_, _-_, _≤_}
 use native.Mathlib.Omega.{arith}
 use lib.ListN.{length}
 use borrow.Rule.Slice.PartMut.{putMid}
-use Rattle.whole.proofs.Laying.{lent}
-use Rattle.moves.specs.declared.record.Record.{Record}
+use Rattle.octets.proofs.Laying.{lent}
+use Rattle.moves.specs.declared.Record.{Record}
 use Rattle.moves.specs.Form.{recordSize, recordBytes, listed}
 use Rattle.moves.specs.Written.{Written}
 use Rattle.moves.proofs.Written.{none-written, one-written, some-written, all-written, written-room, some-room, written-length, rest-less}

@@ -7,7 +7,7 @@ use mir.Syntax.{w32}
 use mir.Val.{SFits}
 use mir.Facts.{toZ-ofZ}
 use borrow.Author.Needs.{needs}
-use Rattle.whole.specs.declared.signed.Side.{Side}
+use Rattle.whole.specs.declared.Side.{Side}
 use Rattle.whole.specs.Signed.{along}
 use Rattle.reaching.proofs.Room.{least, greatest, Answers, upward, downward, nowhere}
 use Rattle.reaching.proofs.ends_within.Statement.{statement}

@@ -10,12 +10,12 @@ use Rattle.alarms.specs.Numbers.{wordRules, placesTooShort}
 use Rattle.places.specs.Places.{sixteenBits, entryOf, highestSlot}
 use Rattle.tape.specs.Lines.{lines}
 use Rattle.tape.specs.declared.line.Line.{Line}
-use Rattle.rules.specs.declared.judge.Judged.{Judged}
-use Rattle.block.specs.declared.words.Head.{Head}
-use Rattle.block.specs.declared.words.Head.the-variants.{Blank, ProgramLine, BlockLine, Other}
+use Rattle.showing.specs.declared.Judged.{Judged}
+use Rattle.block.specs.declared.Head.{Head}
+use Rattle.block.specs.declared.Head.the-variants.{Blank, ProgramLine, BlockLine, Other}
 use Rattle.block.proofs.Heads.{HeadIn}
-use Rattle.rules.proofs.Heads.{judged-in}
-use Rattle.reading.specs.declared.read.Read.the-variants.{Alarm}
+use Rattle.showing.proofs.Heads.{judged-in}
+use Rattle.reading.specs.declared.Read.the-variants.{Alarm}
 use Rattle.reading.specs.Reading.{headAlarm, noted, endsWith}
 use Rattle.reading.specs.Filling.{filed, roomAlarm, told, readLinesWith, placesBehind}
 use Rattle.reading.proofs.Going.{Going, whole, starts, row-ascends, size-is, count-in, answered, at-end, refused-itself, refused-pointless, refused, refused-room, ended, onward, program-above, program-flag, program-repeated, program-new, block-mark, block-repeated, block-new, program-none, program-room, block-none, block-room, size-more, past-blank, past-program, past-block, last-block, blank-none, blank-room, other-start, blank-on, program-on, block-ends}

@@ -8,9 +8,9 @@ use lib.ListN.{length}
 use borrow.Author.Tests.{lt-ltb, le-ltb}
 use Rattle.alarms.specs.Numbers.{noProgram}
 use Rattle.tape.specs.Lines.{seekFrom, opensTape}
-use Rattle.reading.specs.declared.read.Read.the-variants.{Alarm}
+use Rattle.reading.specs.declared.Read.the-variants.{Alarm}
 use Rattle.reading.specs.Reading.{numberOf, placeOf}
-use Rattle.reading.specs.declared.read.TapeRead.{TapeRead}
+use Rattle.reading.specs.declared.TapeRead.{TapeRead}
 use Rattle.reading.specs.Filling.{Readings, told, Tells, readWith, placesBehind}
 use Rattle.reading.proofs.Going.{whole}
 use borrow.Author.Needs.{needs}

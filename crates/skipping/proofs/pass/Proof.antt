@@ -8,7 +8,7 @@ use Rattle.moves.specs.Form.{recordLimit}
 use Rattle.ahead.specs.Ahead.{onto}
 use Rattle.ahead.specs.declared.Frame.{Frame}
 use Rattle.ahead.specs.declared.Onward.{Onward}
-use Rattle.taking.specs.declared.step.Hand.the-variants.{Nothing}
+use Rattle.taking.specs.declared.Hand.the-variants.{Nothing}
 use Rattle.taking.specs.Hands.{Able, Falls, OpenMeets}
 use Rattle.taking.specs.Meets.{MetMeets, QuietDone, Next}
 use Rattle.taking.proofs.Stepping.{quiet-begun, quiet-opens}

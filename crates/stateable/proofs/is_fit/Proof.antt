@@ -5,7 +5,7 @@ use mir.Syntax.{w32}
 use mir.Val.{SFits}
 use Rattle.telling.proofs.Tells.{never, tells-no, told-no}
 use Rattle.whole.specs.Position.{inTable}
-use Rattle.state.specs.declared.modal.State.{State}
+use Rattle.state.specs.declared.State.{State}
 use Rattle.stateable.proofs.Fit.{tells-sound}
 use borrow.Author.Needs.{needs}
 use borrow.Author.Tests.{not-true, not-false}

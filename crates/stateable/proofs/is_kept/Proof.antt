@@ -2,8 +2,8 @@
 use mathlib.Core.Path.{_≡_, sym, _∙_}
 use borrow.Author.Needs.{needs}
 use Rattle.telling.proofs.Tells.{tells-no, tells-yes, tells-of}
-use Rattle.acts.specs.declared.acting.Kept.{Kept}
-use Rattle.acts.specs.declared.acting.Kept.the-variants.{Nothing}
+use Rattle.acts.specs.declared.Kept.{Kept}
+use Rattle.acts.specs.declared.Kept.the-variants.{Nothing}
 use Rattle.acts.specs.Acting.{keep}
 use Rattle.stateable.proofs.Fit.{none-kept, not-kept, kept}
 use Rattle.stateable.proofs.is_kept.Statement.{statement}

@@ -2,8 +2,8 @@
 use borrow.Author.Needs.{needs}
 use mathlib.Core.Path.{_≡_, refl, sym, _∙_, subst}
 use Rattle.axes.proofs.Axes.{picked}
-use Rattle.arrows.specs.declared.arrow.Arrow.{Arrow}
-use Rattle.arcs.specs.declared.arc.Arc.{Arc}
+use Rattle.arrows.specs.declared.Arrow.{Arrow}
+use Rattle.arcs.specs.declared.Arc.{Arc}
 use Rattle.sweeps.specs.declared.Sweep.{Sweep}
 use Rattle.sweeps.specs.declared.Sweep.the-variants.{Full}
 use Rattle.arcs.specs.Arcs.{startOf, endOf}

@@ -12,11 +12,11 @@ use Rattle.whole.specs.Signed.{along}
 use Rattle.reaching.proofs.Room.{Answers}
 use Rattle.depths.specs.Depths.{greatestD}
 use Rattle.depths.specs.Promised.{Rises}
-use Rattle.depths.specs.Cuts as cut
+use Rattle.cuts.specs.Cuts as cut
 use Rattle.depths.proofs.Rows.{starts}
 use Rattle.threading.specs.Threading.{wide}
 use Rattle.threading.proofs.Lines.{wide-small}
-use Rattle.threads.specs.declared.cursor.Cursor.{Cursor}
+use Rattle.threads.specs.declared.Cursor.{Cursor}
 use Rattle.threads.specs.Cursor.{cutsLeft, Sound}
 use Rattle.threadable.specs.Ends.{deepest, Rising}
 use Rattle.threadable.proofs.Endings.{rises-to-last}

@@ -2,11 +2,11 @@
 use mathlib.Core.Path.{refl, sym, ap, _∙_, subst}
 use borrow.Author.Needs.{needs}
 use Rattle.whole.specs.Position.{inTable}
-use Rattle.settings.specs.Listmoves.{listmoves}
-use Rattle.settings.specs.declared.control.Settings.{Settings}
+use Rattle.panel.specs.Listmoves.{listmoves}
+use Rattle.settings.specs.declared.Settings.{Settings}
 use Rattle.state.specs.Modal.{atStart}
 use Rattle.state.specs.Known.{Sound}
-use Rattle.state.proofs.Ranges.{start-sound}
+use Rattle.targets.proofs.Ranges.{start-sound}
 use mir.Syntax.{w32}
 use mir.Val.{toZ, ofZ}
 use Rattle.trying.proofs.begin.Statement.{statement}

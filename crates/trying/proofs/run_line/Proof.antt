@@ -7,7 +7,7 @@ use Rattle.moves.specs.Form.{roomOf}
 use Rattle.settings.specs.Known.{InRange}
 use Rattle.block.specs.Worded.{Worded}
 use Rattle.block.proofs.Worded.{worded}
-use Rattle.block.specs.declared.words.ReadLine.{ReadLine}
+use Rattle.block.specs.declared.ReadLine.{ReadLine}
 use Rattle.trying.proofs.Carrying.{range-right, carried}
 use Rattle.trying.proofs.run_line.Statement.{statement}
 use Rattle.trying.proofs.run_line.Tie as tie

@@ -12,8 +12,8 @@ use Rattle.whole.specs.Signed.{along}
 use Rattle.reaching.proofs.Room.{Answers}
 use Rattle.division.specs.Division.{sum}
 use Rattle.division.specs.Carried.{rowOf}
-use Rattle.turning.specs.declared.cursor.Cursor.{Cursor}
-use Rattle.turning.specs.Cursor.{Sound}
+use Rattle.passes.specs.declared.Cursor.{Cursor}
+use Rattle.passes.specs.Cursor.{Sound}
 use Rattle.turnable.proofs.is_fit.Statement.{statement}
 use Rattle.turnable.proofs.is_fit.Tie as tie
 

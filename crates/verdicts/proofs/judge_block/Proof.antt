@@ -3,7 +3,7 @@ use mathlib.Core.Path.{_≡_, sym, ap, _∙_}
 use denote.Ref.{now}
 use borrow.Author.Needs.{needs}
 use Rattle.asking.specs.Judge.{asksOf, alarmOf}
-use Rattle.deeds.specs.declared.deed.Deed.{Deed}
+use Rattle.deeds.specs.declared.Deed.{Deed}
 use Rattle.verdicts.specs.declared.Verdict.the-variants.{Refused, Goes}
 use Rattle.verdicts.specs.Verdicts.{asksIn, alarmIn, goingOf}
 use Rattle.verdicts.proofs.Passing.{verdict-goes, verdict-refused}

@@ -7,10 +7,10 @@ use lib.ListN.{length, take}
 use denote.Ref.{now}
 use borrow.Author.Needs.{needs}
 use Rattle.moves.specs.Form.{stamped}
-use Rattle.moves.specs.declared.record.Record.{Record}
+use Rattle.moves.specs.declared.Record.{Record}
 use Rattle.tape.specs.Lines.{lines}
 use Rattle.block.specs.Worded.{Worded}
-use Rattle.block.specs.declared.words.Block.{Block}
+use Rattle.block.specs.declared.Block.{Block}
 use Rattle.finding.specs.Finds.{Finds}
 use Rattle.finding.proofs.Searching.{program-small}
 use Rattle.asking.specs.Judge.{doing}
@@ -24,7 +24,7 @@ use Rattle.machine.proofs.Running.{done-few, going-records, going-state}
 use Rattle.ahead.specs.Ahead.{onto, FoundAt}
 use Rattle.ahead.specs.declared.Frame.{Frame}
 use Rattle.ahead.specs.declared.Onward.{Onward}
-use Rattle.taking.specs.declared.step.Opened.{Opened}
+use Rattle.taking.specs.declared.Opened.{Opened}
 use Rattle.taking.specs.Steps.{taskIn, blockOn, onwardOf, alarmBy}
 use Rattle.taking.specs.Hands.{OpenMeets}
 use Rattle.taking.specs.Meets.{onwardIn, Asks, wentBy}

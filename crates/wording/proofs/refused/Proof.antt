@@ -1,9 +1,9 @@
 -- `wording::refused` meets its contract.
 use mathlib.Core.Path.{ap}
 use borrow.Author.Needs.{needs}
-use Rattle.taking.specs.declared.step.StepDone.{StepDone}
-use Rattle.taking.specs.declared.step.Hand.the-variants.{Nothing}
-use Rattle.taking.specs.declared.step.Opened.{Opened}
+use Rattle.taking.specs.declared.StepDone.{StepDone}
+use Rattle.taking.specs.declared.Hand.the-variants.{Nothing}
+use Rattle.taking.specs.declared.Opened.{Opened}
 use Rattle.wording.proofs.refused.Statement.{statement}
 use Rattle.wording.proofs.refused.Tie as tie
 

@@ -2,7 +2,7 @@
 use mathlib.Core.Path.{ap, _∙_}
 use borrow.Author.Needs.{needs}
 use borrow.Author.Tests.{lt-ltb}
-use Rattle.block.specs.declared.words.Rest.{Rest}
+use Rattle.block.specs.declared.Rest.{Rest}
 use Rattle.taking.specs.Steps.{blockIn}
 use Rattle.taking.proofs.Lines.{words-behind}
 use Rattle.wording.proofs.words_of.Statement.{statement}

@@ -3,8 +3,8 @@ use mathlib.Core.Path.{ap, _∙_}
 use native.Mathlib.Omega.{arith}
 use mir.Facts.{toZ-ofZ}
 use borrow.Author.Needs.{needs, sfits-of}
-use Rattle.whole.specs.Bytes.{valueOf, signedOf}
-use Rattle.whole.proofs.LittleEndian.{read-back}
+use Rattle.octets.specs.Bytes.{valueOf, signedOf}
+use Rattle.octets.proofs.LittleEndian.{read-back}
 use Rattle.cells.proofs.figures.signed_of.Statement.{statement}
 use Rattle.cells.proofs.figures.signed_of.Tie as tie
 

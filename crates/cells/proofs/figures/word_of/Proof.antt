@@ -2,8 +2,8 @@
 use mathlib.Core.Path.{ap, _∙_}
 use mir.Facts.{toZ-ofZ}
 use borrow.Author.Needs.{needs}
-use Rattle.whole.specs.Bytes.{valueOf, signedBytes, signedOf}
-use Rattle.whole.proofs.LittleEndian.{signed-read-back}
+use Rattle.octets.specs.Bytes.{valueOf, signedBytes, signedOf}
+use Rattle.octets.proofs.LittleEndian.{signed-read-back}
 use Rattle.cells.proofs.figures.word_of.Statement.{statement}
 use Rattle.cells.proofs.figures.word_of.Tie as tie
 

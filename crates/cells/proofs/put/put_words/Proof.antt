@@ -6,8 +6,8 @@ use native.Mathlib.Omega.{arith}
 use lib.ListN.{length, getD, take, set, length-set}
 use lib.Seq.{take-all}
 use borrow.Author.Needs.{needs}
-use Rattle.whole.specs.Bytes.{laid}
-use Rattle.whole.proofs.Laying.{laid-nil}
+use Rattle.octets.specs.Bytes.{laid}
+use Rattle.octets.proofs.Laying.{laid-nil}
 use Rattle.cells.proofs.Laying.{next-laid}
 use Rattle.cells.proofs.put.put_words.Statement.{statement}
 use Rattle.cells.proofs.put.put_words.Tie as tie

@@ -1,6 +1,6 @@
 -- `cyclehand::drilled::put_behind` meets its contract.
 use borrow.Author.Needs.{needs}
-use Rattle.stages.specs.declared.cursor.Due.the-variants.{Drilling}
+use Rattle.stages.specs.declared.Due.the-variants.{Drilling}
 use Rattle.handwords.proofs.Slots.{slot-drilling}
 use Rattle.passhand.proofs.Giving.{put-none, put-some}
 use Rattle.cyclehand.proofs.drilled.put_behind.Statement.{statement}

@@ -1,6 +1,6 @@
 -- `cyclehand::grooved::put_behind` meets its contract.
 use borrow.Author.Needs.{needs}
-use Rattle.stages.specs.declared.cursor.Due.the-variants.{Grooving}
+use Rattle.stages.specs.declared.Due.the-variants.{Grooving}
 use Rattle.handwords.proofs.Slots.{slot-grooving}
 use Rattle.passhand.proofs.Giving.{put-none, put-some}
 use Rattle.cyclehand.proofs.grooved.put_behind.Statement.{statement}

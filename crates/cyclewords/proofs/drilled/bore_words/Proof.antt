@@ -4,7 +4,7 @@ use mir.Syntax.{w32}
 use mir.Val.{SFits}
 use mir.Facts.{toZ-ofZ}
 use borrow.Author.Needs.{needs}
-use Rattle.drilling.specs.declared.bore.Bore.{Bore}
+use Rattle.drilling.specs.declared.Bore.{Bore}
 use Rattle.cyclewords.proofs.drilled.bore_words.Statement.{statement}
 use Rattle.cyclewords.proofs.drilled.bore_words.Tie as tie
 

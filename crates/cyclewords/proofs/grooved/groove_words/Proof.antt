@@ -4,7 +4,7 @@ use mir.Syntax.{w32}
 use mir.Val.{SFits}
 use mir.Facts.{toZ-ofZ}
 use borrow.Author.Needs.{needs}
-use Rattle.grooving.specs.declared.groove.Groove.{Groove}
+use Rattle.grooving.specs.declared.Groove.{Groove}
 use Rattle.cyclewords.proofs.grooved.groove_words.Statement.{statement}
 use Rattle.cyclewords.proofs.grooved.groove_words.Tie as tie
 

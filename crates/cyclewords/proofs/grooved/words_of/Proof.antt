@@ -4,7 +4,7 @@ use mir.Syntax.{w32}
 use mir.Val.{SFits}
 use mir.Facts.{toZ-ofZ}
 use borrow.Author.Needs.{needs}
-use Rattle.plunges.specs.declared.cursor.Cursor.{Cursor}
+use Rattle.plunges.specs.declared.Cursor.{Cursor}
 use Rattle.cyclewords.specs.Grooved.{groovingOf}
 use Rattle.cyclewords.proofs.grooved.words_of.Statement.{statement}
 use Rattle.cyclewords.proofs.grooved.words_of.Tie as tie

@@ -4,7 +4,7 @@ use mir.Syntax.{w32}
 use mir.Val.{SFits}
 use mir.Facts.{toZ-ofZ}
 use borrow.Author.Needs.{needs}
-use Rattle.turning.specs.declared.cursor.Cursor.{Cursor}
+use Rattle.passes.specs.declared.Cursor.{Cursor}
 use Rattle.cyclewords.proofs.turned.front_words.Statement.{statement}
 use Rattle.cyclewords.proofs.turned.front_words.Tie as tie
 

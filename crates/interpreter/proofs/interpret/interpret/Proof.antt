@@ -3,7 +3,7 @@ use mathlib.Core.Path.{_≡_, sym, ap, _∙_}
 use mathlib.Core.Bool.{false}
 use denote.Ref.{now}
 use borrow.Author.Needs.{needs}
-use Rattle.reading.specs.declared.read.TapeRead.{TapeRead}
+use Rattle.reading.specs.declared.TapeRead.{TapeRead}
 use Rattle.settings.specs.Wrong.{settingsWrong}
 use Rattle.settings.proofs.Right.{right}
 use Rattle.interpreter.proofs.Whole.{wrong-settings, wrong-kept, long-tape, long-kept, short-buffer, short-kept, read-known, read-filled, goes-on}

@@ -4,7 +4,7 @@ use mathlib.Core.Bool.{false}
 use denote.Ref.{now}
 use borrow.Author.Needs.{needs}
 use Rattle.settings.specs.Known.{Right}
-use Rattle.settings.specs.declared.control.Settings.{Settings}
+use Rattle.settings.specs.declared.Settings.{Settings}
 use Rattle.settings.proofs.Right.{right-points}
 use Rattle.interpreter.specs.Answers.{readThen}
 use Rattle.interpreter.proofs.Whole.{none-begun, read-gives, run-gives}

@@ -3,7 +3,7 @@ use borrow.Author.Needs.{needs}
 use mathlib.Core.Path.{_∙_}
 use mathlib.Core.List.{[], _∷_}
 use lib.ListN.{getD}
-use Rattle.whole.specs.Bytes.{littleEndian, laid}
+use Rattle.octets.specs.Bytes.{littleEndian, laid}
 use Rattle.moves.proofs.Writing.{header-laid}
 use Rattle.moves.proofs.list.put_header.Statement.{statement}
 use Rattle.moves.proofs.list.put_header.Tie as tie

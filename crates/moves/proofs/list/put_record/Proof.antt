@@ -8,7 +8,7 @@ use mir.Syntax.{w32}
 use mir.Val.{SFits, toZ, ofZ}
 use Rattle.moves.proofs.Writing.{record-laid}
 use Rattle.moves.specs.Form.{originBytes}
-use Rattle.whole.specs.Bytes.{littleEndian, wordOf, laid}
+use Rattle.octets.specs.Bytes.{littleEndian, wordOf, laid}
 use Rattle.moves.proofs.list.put_record.Statement.{statement}
 use Rattle.moves.proofs.list.put_record.Tie as tie
 

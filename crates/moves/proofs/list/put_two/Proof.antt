@@ -2,7 +2,7 @@
 use borrow.Author.Needs.{needs}
 use mathlib.Core.Path.{refl}
 use mathlib.Core.List.{[], _∷_}
-use Rattle.whole.proofs.Laying.{lent}
+use Rattle.octets.proofs.Laying.{lent}
 use Rattle.moves.specs.Form.{recordSize, recordBytes, listed}
 use Rattle.moves.proofs.Written.{none-written, one-written, all-written}
 use Rattle.moves.proofs.list.put_two.Statement.{statement}

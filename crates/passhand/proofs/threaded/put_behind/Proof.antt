@@ -1,6 +1,6 @@
 -- `passhand::threaded::put_behind` meets its contract.
 use borrow.Author.Needs.{needs}
-use Rattle.stages.specs.declared.cursor.Due.the-variants.{Threading}
+use Rattle.stages.specs.declared.Due.the-variants.{Threading}
 use Rattle.handwords.proofs.Slots.{slot-threading}
 use Rattle.passhand.proofs.Giving.{put-none, put-some}
 use Rattle.passhand.proofs.threaded.put_behind.Statement.{statement}

@@ -2,7 +2,7 @@
 use mathlib.Core.Path.{_≡_, refl, sym, ap, _∙_}
 use borrow.Author.Needs.{needs}
 use borrow.Author.Tests.{not-true, not-false}
-use Rattle.stages.specs.declared.cursor.Due.the-variants.{Turning}
+use Rattle.stages.specs.declared.Due.the-variants.{Turning}
 use Rattle.handing.proofs.Cursors.{turning-next}
 use Rattle.cyclewords.specs.Turned.{turningOf}
 use Rattle.passhand.proofs.Giving.{over-other, not-fit, given}

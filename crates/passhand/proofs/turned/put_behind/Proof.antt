@@ -1,6 +1,6 @@
 -- `passhand::turned::put_behind` meets its contract.
 use borrow.Author.Needs.{needs}
-use Rattle.stages.specs.declared.cursor.Due.the-variants.{Turning}
+use Rattle.stages.specs.declared.Due.the-variants.{Turning}
 use Rattle.handwords.proofs.Slots.{slot-turning}
 use Rattle.passhand.proofs.Giving.{put-none, put-some}
 use Rattle.passhand.proofs.turned.put_behind.Statement.{statement}

@@ -1,7 +1,7 @@
 -- `plunges::before::is_before_cut` meets its contract.
 use mathlib.Core.Path.{_≡_, sym, ap}
 use borrow.Author.Needs.{needs}
-use Rattle.plunges.specs.declared.cursor.Stage.the-variants.{Cut, Back, Dwell, Out, Across, Over}
+use Rattle.plunges.specs.declared.Stage.the-variants.{Cut, Back, Dwell, Out, Across, Over}
 use Rattle.plunges.specs.Cursor.{beforeCutAt}
 use Rattle.plunges.proofs.before.is_before_cut.Statement.{statement}
 use Rattle.plunges.proofs.before.is_before_cut.Tie as tie

@@ -1,8 +1,8 @@
 -- `plunges::before::is_before_cut_and_back` meets its contract.
 use mathlib.Core.Path.{_≡_, sym, ap}
 use borrow.Author.Needs.{needs}
-use Rattle.plunges.specs.declared.cursor.Stage.{Stage}
-use Rattle.plunges.specs.declared.cursor.Stage.the-variants.{Cut, Back, Dwell, Out, Across, Over}
+use Rattle.plunges.specs.declared.Stage.{Stage}
+use Rattle.plunges.specs.declared.Stage.the-variants.{Cut, Back, Dwell, Out, Across, Over}
 use Rattle.plunges.specs.Cursor.{beforeCutAndBackAt}
 use Rattle.plunges.proofs.before.is_before_cut_and_back.Statement.{statement}
 use Rattle.plunges.proofs.before.is_before_cut_and_back.Tie as tie

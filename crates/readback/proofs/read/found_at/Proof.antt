@@ -4,12 +4,12 @@ use Prim.Native.Nat.{_+_, _≤_}
 use lib.ListN.{length}
 use denote.Ref.{now}
 use borrow.Author.Needs.{needs}
-use Rattle.moves.specs.declared.record.Record.{Record}
-use Rattle.moves.specs.declared.record.Listed.{Listed}
+use Rattle.moves.specs.declared.Record.{Record}
+use Rattle.moves.specs.declared.Listed.{Listed}
 use Rattle.lawful.specs.Versions.{sizeIn, startIn}
 use Rattle.readback.specs.Lists.{foundAt}
-use Rattle.lawful.specs.declared.versions.Version.{Version}
-use Rattle.lawful.specs.declared.versions.Version.the-variants.{One, Two}
+use Rattle.lawful.specs.declared.Version.{Version}
+use Rattle.lawful.specs.declared.Version.the-variants.{One, Two}
 use Rattle.readback.specs.declared.read.Source.the-variants.{From, Untold}
 use Rattle.readback.specs.declared.read.ReadBack.the-variants.{Found}
 use Rattle.readback.proofs.read.found_at.Statement.{statement}

@@ -8,8 +8,8 @@ use borrow.Author.Needs.{needs}
 use Rattle.moves.specs.Form.{headerSize}
 use Rattle.lawful.specs.Versions.{sizeIn}
 use Rattle.readback.specs.Lists.{heldBy}
-use Rattle.lawful.specs.declared.versions.Version.{Version}
-use Rattle.lawful.specs.declared.versions.Version.the-variants.{One, Two}
+use Rattle.lawful.specs.declared.Version.{Version}
+use Rattle.lawful.specs.declared.Version.the-variants.{One, Two}
 use Rattle.readback.proofs.Accepted.{held, held-found, not-held}
 use Rattle.readback.proofs.read.read_as.Statement.{statement}
 use Rattle.readback.proofs.read.read_as.Tie as tie

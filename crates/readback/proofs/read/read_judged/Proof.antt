@@ -3,7 +3,7 @@ use mathlib.Core.Path.{ap, _∙_}
 use denote.Ref.{now}
 use borrow.Author.Needs.{needs}
 use Rattle.readback.specs.Lists.{readAs, readJudged}
-use Rattle.lawful.specs.declared.versions.Version.{Version}
+use Rattle.lawful.specs.declared.Version.{Version}
 use Rattle.readback.proofs.Accepted.{too-short}
 use Rattle.readback.proofs.read.read_judged.Statement.{statement}
 use Rattle.readback.proofs.read.read_judged.Tie as tie

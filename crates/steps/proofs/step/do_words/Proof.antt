@@ -5,13 +5,13 @@ use native.Mathlib.Omega.{arith}
 use lib.ListN.{length}
 use denote.Ref.{now}
 use borrow.Author.Needs.{needs}
-use Rattle.whole.specs.Bytes.{laid}
+use Rattle.octets.specs.Bytes.{laid}
 use Rattle.moves.specs.Form.{recordStart, roomOf, rowBytes}
 use Rattle.moves.proofs.OneReading.{length-stamped}
 use Rattle.moves.proofs.Room.{room-fits}
 use Rattle.stages.specs.Cursor.{restOf}
-use Rattle.taking.specs.declared.step.Hand.{Hand}
-use Rattle.taking.specs.declared.step.Opened.{Opened}
+use Rattle.taking.specs.declared.Hand.{Hand}
+use Rattle.taking.specs.declared.Opened.{Opened}
 use Rattle.taking.specs.Hands.{inHand, HandSound, Able, OpenMeets}
 use Rattle.steps.proofs.Writing.{able, has-room, step-meets, quiet-meets}
 use Rattle.steps.proofs.step.do_words.Statement.{statement}

@@ -4,7 +4,7 @@ use lib.ListN.{length}
 use denote.Ref.{now}
 use borrow.Author.Needs.{needs}
 use Rattle.moves.specs.Form.{roomOf}
-use Rattle.taking.specs.declared.step.Hand.the-variants.{Nothing}
+use Rattle.taking.specs.declared.Hand.the-variants.{Nothing}
 use Rattle.taking.specs.Meets.{MetMeets}
 use Rattle.taking.proofs.Stepping.{quiet-begun, quiet-opens}
 use Rattle.steps.proofs.Writing.{able, quiet-meets}

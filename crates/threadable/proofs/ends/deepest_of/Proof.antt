@@ -4,8 +4,8 @@ use mathlib.Core.Bool.{false}
 use Prim.Native.Nat.{_+_, _<_, _^_}
 use native.Mathlib.Omega.{arith}
 use borrow.Author.Needs.{needs}
-use Rattle.depths.specs.Cuts.{over, Summed}
-use Rattle.depths.proofs.Opened.{rest-none, some-by-depth, some-by-number, sound-of, going-of}
+use Rattle.cuts.specs.Cuts.{over, Summed}
+use Rattle.cuts.proofs.Opened.{rest-none, some-by-depth, some-by-number, sound-of, going-of}
 use Rattle.threadable.specs.Ends.{deepest}
 use Rattle.threadable.proofs.Endings.{none-deepest, even-deepest, only-last-sound, same-number, by-depth-going, by-number-going, by-depth-deepest, by-number-deepest}
 use Rattle.threadable.proofs.ends.deepest_of.Statement.{statement}

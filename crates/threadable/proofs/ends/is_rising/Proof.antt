@@ -2,7 +2,7 @@
 use mathlib.Core.Path.{refl, sym, _∙_}
 use borrow.Author.Needs.{needs}
 use borrow.Author.Tests.{leb-true, le-leb}
-use Rattle.depths.proofs.Opened.{rest-none}
+use Rattle.cuts.proofs.Opened.{rest-none}
 use Rattle.threadable.proofs.Endings.{first-rises, first-risen, none-rises}
 use Rattle.threadable.proofs.ends.is_rising.Statement.{statement}
 use Rattle.threadable.proofs.ends.is_rising.Tie as tie

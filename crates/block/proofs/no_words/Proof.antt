@@ -1,0 +1,12 @@
+-- `block::no_words` meets its contract.
+use mathlib.Core.Path.{refl}
+use Rattle.block.specs.Words.{noWords}
+use Rattle.block.proofs.no_words.Statement.{statement}
+use Rattle.block.proofs.no_words.Tie as tie
+
+returns : tie.Need-returns
+unfolding noWords
+returns c = refl
+
+pub no-words-spec : {M : Type 1} → statement M
+no-words-spec = tie.close (tie.spec returns)

@@ -1,0 +1,2 @@
+-- The laws of the cuts of a thread that is opened.
+pub mod Opened

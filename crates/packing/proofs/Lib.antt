@@ -1,0 +1,2 @@
+-- The laws of an answer as one number.
+pub mod Packs

@@ -1,0 +1,17 @@
+-- `packing::told_number` meets its contract.
+use mathlib.Core.Path.{sym, ap, _∙_}
+use Prim.Native.Nat.{ℕ, _+_}
+use native.Mathlib.Omega.{arith}
+use borrow.Author.Needs.{needs}
+use Rattle.packing.specs.Packing.{over, toldNumber}
+use Rattle.packing.proofs.told_number.Statement.{statement}
+use Rattle.packing.proofs.told_number.Tie as tie
+
+add-result : tie.Need-add-result
+add-result c = omega (arith, c .answer-number .ensures .1)
+
+returns-2 : tie.Need-returns-2
+returns-2 c = ap (λ (n : ℕ). over + n) (c .answer-number .ensures .0) ∙ ap toldNumber (sym (c .before .before .told .given .1))
+
+pub told-number-spec : {M : Type 1} → statement M
+told-number-spec = tie.close (tie.spec (λ c. search needs) (λ c. search needs) (λ c κs. search needs) add-result (λ c. search needs) (λ c. search needs) returns-2 (λ c. search needs))

@@ -1,0 +1,2 @@
+-- The laws of the settings as a row.
+pub mod Rows

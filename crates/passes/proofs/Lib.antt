@@ -1,0 +1,2 @@
+-- The laws of a turning cycle that is opened.
+pub mod Cursors

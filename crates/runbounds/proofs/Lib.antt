@@ -1,0 +1,2 @@
+-- The laws of the bounds of a run.
+pub mod Keeping

@@ -1,0 +1,3 @@
+-- The laws of a judged line.
+pub mod Heads
+pub mod Bare

@@ -1,0 +1,2 @@
+-- The definitions that the contracts of this crate cite, and those of the crates built on it.
+pub mod Showing

@@ -1,0 +1,3 @@
+-- The laws of offsets and targets.
+pub mod Sending
+pub mod Ranges
