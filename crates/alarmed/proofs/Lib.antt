@@ -7,3 +7,4 @@ pub mod Never
 pub mod Walks
 pub mod Alarmed
 pub mod Alone
+pub mod Ample

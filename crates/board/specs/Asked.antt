@@ -3,14 +3,14 @@
 use mathlib.Core.Path.{_≡_}
 use mathlib.Core.Bool.{Bool, cond}
 use mathlib.Core.List.{List}
-use Prim.Native.Nat.{ℕ, suc, _+_, _*_, _≤_}
+use Prim.Native.Nat.{ℕ, suc, _+_, _≤_}
 use lib.IntN.{ℤ}
 use lib.ListN.{length}
 use Rattle.octets.specs.Bytes.{laid}
 use Rattle.moves.specs.Form.{recordSize, recordBytes}
-use Rattle.places.specs.Places.{sixteenBits}
+use Rattle.alarms.specs.Numbers.{bufferTooShort, placesTooShort}
 use Rattle.reading.specs.Filling.{mostPlaces}
-use Rattle.answers.specs.Answers.{numberOf, placeOf, countOf}
+use Rattle.answers.specs.declared.Answer.the-variants.{Alarm}
 use Rattle.resuming.specs.declared.Handed.{Handed}
 use Rattle.resuming.specs.declared.Handed.the-variants as handed
 use Rattle.resuming.specs.Handed.{roomy, leftOf}
@@ -18,7 +18,7 @@ use Rattle.resuming.specs.Handed as left
 use Rattle.inhand.specs.State.{stateWords}
 use Rattle.packing.specs.declared.Told.{Told}
 use Rattle.packing.specs.declared.Told.the-variants as told
-use Rattle.packing.specs.Packing.{over, toldNumber}
+use Rattle.packing.specs.Packing.{answerNumber, over, toldNumber}
 use Rattle.onemove.specs.OneMove.{StartsIn, NextMeets}
 use Rattle.board.specs.Door.{atDoor, firstAtDoor}
 
@@ -46,14 +46,18 @@ pub record AsksAtDoor (tape : List ℕ) (table numbers : List ℤ) (places : Lis
 -- the number and the bytes of what is handed out: a record, or an answer, which leaves the bytes as they came
 abbrev pub Answers : Handed → List ℕ → ℕ → List ℕ → Type 0
 Answers (handed.Move l) b r c = (r ≡ 0) × (c ≡ laid b 0 (recordBytes l))
-Answers (handed.Over a) b r c = (r ≡ over + (countOf a + sixteenBits * (placeOf a + sixteenBits * numberOf a))) × (c ≡ b)
+Answers (handed.Over a) b r c = (r ≡ over + answerNumber a) × (c ≡ b)
 
+-- (`StartAtDoor` is what `tm02_start` ensures, and `NextAtDoor` what `tm02_next` does: crates/board/src/lib.rt.)
 -- THE PROMISE: whatever words are lent to a start, if they are as many as a state has, the k-th ask behind it answers with the list engine's record k, and from its count on with its end or alarm, for ever;
 -- the list engine with a buffer of 64,008 bytes and a table of places of the same length, and where that is long enough for every tape the one of the first layout, which knows no such table
 pub record OneMoveAtDoor (tape : List ℕ) (table numbers : List ℤ) (places : List ℕ) (r : ℕ) (b c : ℕ → List ℕ) (told : ℕ → ℕ) : Type 0 where
   pub started : r ≡ 0
   pub same : (k : ℕ) → Answers (left.handed (leftOf (atDoor tape table numbers (length places) roomy)) k) (b k) (told k) (c k)
   pub long : mostPlaces ≤ length places → (k : ℕ) → Answers (left.handed (leftOf (firstAtDoor tape table numbers roomy)) k) (b k) (told k) (c k)
+  -- as it is read (36): "3 and 22 cannot come"
+  pub no-three : (place count : ℕ) → atDoor tape table numbers (length places) roomy .answer ≡ Alarm bufferTooShort place count → ⊥
+  pub no-twenty-two : mostPlaces ≤ length places → (place count : ℕ) → atDoor tape table numbers (length places) roomy .answer ≡ Alarm placesTooShort place count → ⊥
 
 abbrev pub OneMoveLaw : List ℕ → List ℤ → List ℤ → List ℕ → Type 0
 OneMoveLaw tape table numbers places =

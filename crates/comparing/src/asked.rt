@@ -1,5 +1,5 @@
 // A tape run one move at a time (02, request 12), and each answer compared with the list of the same run: record k with the list's record k, then the end or the alarm, which is repeated. The list
-// engine is lent a buffer that has room for every list, and both a table of places that is long enough for every tape.
+// engine is lent a buffer that has room for every list, and both the table of places that the case asks for. Before that, words that no start made are asked, and refused.
 use stored::compare::Verdict;
 ghost use Prim.Native.Nat.{_≤_};
 ghost use Rattle.stored.specs.Texts.{FromOne};
@@ -7,13 +7,11 @@ ghost use Rattle.stored.specs.Texts.{FromOne};
 // The buffer that has room for every list.
 const LIST: usize = moves::HEADER_SIZE + moves::RECORD_SIZE * moves::RECORD_LIMIT;
 
-// The table of places that is long enough for every tape.
-const PLACES: usize = reading::MOST_PLACES;
-
-// What the words of a state and the tables of places hold before: any number does.
+// What the words of a state hold before: any number does.
 const UNUSED_WORD: u32 = 1;
 
-const UNUSED_PLACE: u64 = 1;
+// A count of records that no answer has: it takes 17 bits.
+const TOO_MANY: u32 = 65_536;
 
 // How often the answer is asked for once the run is over: it is repeated twice.
 const LAST_ASKS: usize = 3;
@@ -126,22 +124,22 @@ fn judge_asks(
     tape: &[u8],
     table: &[i32],
     settings: &[i32],
+    places: &mut [u64],
     state: &mut [u32],
     list: &[u8; LIST],
     packed: u64,
 ) -> Verdict
     ensures { λ r. ⌜ FromOne r ⌝ }
 {
-    let mut places = [UNUSED_PLACE; PLACES];
-    if !is_started(tape, table, settings, &mut places, state) {
+    if !is_started(tape, table, settings, places, state) {
         return Verdict::Differs(ANSWER_LINE);
     }
     let count = (packed % crate::SIXTEEN_BITS) as usize;
-    let told = records_told(tape, table, settings, &places, state, list, count);
+    let told = records_told(tape, table, settings, places, state, list, count);
     if told < count {
         return Verdict::Differs(told + FIRST_RECORD_LINE);
     }
-    if !repeats_answer(tape, table, settings, &places, state, packed) {
+    if !repeats_answer(tape, table, settings, places, state, packed) {
         return Verdict::Differs(ANSWER_LINE);
     }
     Verdict::Agrees
@@ -152,25 +150,58 @@ fn judge_starts(
     tape: &[u8],
     table: &[i32],
     settings: &[i32],
+    places: &mut [u64],
     list: &[u8; LIST],
     packed: u64,
 ) -> Verdict
     ensures { λ r. ⌜ FromOne r ⌝ }
 {
     let mut state = [UNUSED_WORD; inhand::STATE_WORDS];
-    let first = judge_asks(tape, table, settings, &mut state, list, packed);
+    let first = judge_asks(tape, table, settings, places, &mut state, list, packed);
     let Verdict::Agrees = first else {
         return first;
     };
-    judge_asks(tape, table, settings, &mut state, list, packed)
+    judge_asks(tape, table, settings, places, &mut state, list, packed)
 }
 
-// Makes the list of a tape, and asks for its moves one at a time.
-pub fn judge_moves(tape: &[u8], table: &[i32], settings: &[i32]) -> Verdict
+// Whether an ask of these words, with these bytes for a record, is refused.
+fn is_refused(
+    tape: &[u8],
+    table: &[i32],
+    settings: &[i32],
+    places: &[u64],
+    state: &mut [u32],
+    record: &mut [u8],
+) -> bool {
+    board::tm02_next(tape, table, settings, places, state, record) == packing::TOLD_REFUSED
+}
+
+// Whether words that no start made are refused: cleared ones, one too few, and an answer with a count that no answer has; and bytes that lack one for a record. No start is made in one word too few.
+fn refuses_words(tape: &[u8], table: &[i32], settings: &[i32], places: &mut [u64]) -> bool {
+    let mut record = [0u8; moves::RECORD_SIZE];
+    let mut short = [0u8; moves::RECORD_SIZE - 1];
+    let mut cleared = [0u32; inhand::STATE_WORDS];
+    let mut few = [0u32; inhand::STATE_WORDS - 1];
+    let mut over = [0u32; inhand::STATE_WORDS];
+    over[inhand::GOING + runwords::PHASE] = runwords::COMPLETE;
+    let ended = board::tm02_next(tape, table, settings, places, &mut over, &mut record);
+    over[inhand::GOING + runwords::COUNT] = TOO_MANY;
+    let none = is_refused(tape, table, settings, places, &mut cleared, &mut record);
+    let fewer = is_refused(tape, table, settings, places, &mut few, &mut record);
+    let more = is_refused(tape, table, settings, places, &mut over, &mut record);
+    let narrow = is_refused(tape, table, settings, places, &mut over, &mut short);
+    let started = is_started(tape, table, settings, places, &mut few);
+    (ended == packing::TOLD_OVER) & none & fewer & more & narrow & !started
+}
+
+// Makes the list of a tape, and asks for its moves one at a time, with the same table of places.
+pub fn judge_moves(tape: &[u8], table: &[i32], settings: &[i32], places: &mut [u64]) -> Verdict
     ensures { λ r. ⌜ FromOne r ⌝ }
 {
     let mut list = [0u8; LIST];
-    let mut places = [UNUSED_PLACE; PLACES];
-    let packed = board::tm02_interpret(tape, table, settings, &mut places, &mut list);
-    judge_starts(tape, table, settings, &list, packed)
+    let packed = board::tm02_interpret(tape, table, settings, places, &mut list);
+    if !refuses_words(tape, table, settings, places) {
+        return Verdict::Differs(ANSWER_LINE);
+    }
+    judge_starts(tape, table, settings, places, &list, packed)
 }

@@ -98,7 +98,7 @@ fn judge_both(
     let Verdict::Agrees = listed else {
         return listed;
     };
-    asked::judge_moves(tape, table, settings)
+    asked::judge_moves(tape, table, settings, places)
 }
 
 // Lends the tape the table, the table of places and the buffer that its case asks for, and no number and no byte more.

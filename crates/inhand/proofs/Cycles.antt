@@ -7,6 +7,7 @@ use Prim.Native.Nat.{ℕ, _+_, _≤_}
 use native.Mathlib.Omega.{arith}
 use lib.ListN.{length, drop, take-append-drop}
 use Rattle.octets.specs.Bytes.{laid}
+use borrow.Author.Tests.{not-true}
 use Rattle.telling.proofs.Tells.{never}
 use Rattle.moves.specs.Form.{recordSize}
 use Rattle.moves.specs.declared.Origin.{Origin}
@@ -92,16 +93,25 @@ module _ {w b : List ℕ} {r : Gave} {v c : List ℕ} (a : Asked w b r v c) (is 
   read : Read w slot slot plan (a .origin)
   read = record { slot = refl; due = sym (deed-due (dueIn w) slot deed); plan = refl; origin = a .from }
 
+  sound : cursor.Sound plan slot
+  sound = read-sound read (record { sound = told-as a is .1; deeds = deeds slot cycle })
+
   makes : cursor.Makes plan slot (got .made) (got .behind)
-  makes = got .makes plan (read-sound read (record { sound = told-as a is .1; deeds = deeds slot cycle }))
+  makes = got .makes plan sound
+
+  -- a record of it is left
+  left : cursor.over plan slot ≡ false
+  left =
+      let goes = both (isCycle slot) (not (cursor.cycleOver slot)) (both (isDeed (dueIn w)) (hasNext slot) (told-as a is .0) .1) .1 in
+      cycle-over plan slot cycle ∙ ap (λ (o : Bool). o && not (plan .stops)) (not-true (cursor.cycleOver slot) goes)
 
   by-over : (over : Bool) → cursor.over plan (got .behind) ≡ over → Holds over (got .behind) v → GiveMeets w b true (v ++ drop dueWords w) c
   by-over true e none =
-      last w b (a .some) read (got .made) (got .behind) makes e (nothing-put w v (a .long) (got .put .long) none (lent-due w v (got .put .long))) (got .bytes)
+      last w b (a .some) read (got .made) (got .behind) makes sound left e (nothing-put w v (a .long) (got .put .long) none (lent-due w v (got .put .long))) (got .bytes)
   by-over false e h =
       let own : kept slot (got .behind) ≡ got .behind = kept-own slot (got .behind) (got .cycle) in
       let due : dueBy v (kept slot (got .behind)) ≡ got .behind = ap (dueBy v) own ∙ deed-due v (got .behind) (h .0) in
-      more w b (a .some) read (got .made) (got .behind) makes e
+      more w b (a .some) read (got .made) (got .behind) makes sound left e
       (due-is-put w v slot (got .behind) (a .long) (got .put .long) (h .1 ∙ sym own, due, deed-some v (h .0)) (lent-due w v (got .put .long)))
       (got .bytes)
 

@@ -73,7 +73,7 @@ read-sound {w} {slot} r f = rw (r .plan, r .due) (fit-sound (planIn w) (dueIn w)
 module _ (w b : List ℕ) (some : isEmptyIn w ≡ false) where
   -- no block that has a record
   refused : (Held (handIn w) → ⊥) → GiveMeets w b false w b
-  refused without = record { gives = λ e. absurd (never e); refuses = λ e. (refl, refl); right = λ h. absurd (without h) }
+  refused without = record { gives = λ e. absurd (never e); refuses = λ e. (refl, refl); right = λ h. absurd (without h); held = λ e. absurd (never e) }
 
   -- the deed of a plan that holds fits
   held-fits : Held (handIn w) → Fits (slotOf (dueIn w))
@@ -93,7 +93,7 @@ module _ (w b : List ℕ) (some : isEmptyIn w ≡ false) where
     none-left e = refused (λ h. never (sym (subst Held held-is h .some) ∙ e))
 
     -- the next record
-    module _ (made : Record) (behind : Due) (m : cursor.Makes plan due made behind) where
+    module _ (made : Record) (behind : Due) (m : cursor.Makes plan due made behind) (sound : cursor.Sound plan due) (left : cursor.over plan due ≡ false) where
       given : {v c : List ℕ} (h : Hand) → inHand (Block (record { plan = plan; due = due }) o) ≡ listed o made ∷ inHand h → Held h → PutMeets w h v → c ≡ laid b 0 (recordBytes (listed o made))
           → GiveMeets w b true v c
       given h first held q is =
@@ -109,6 +109,7 @@ module _ (w b : List ℕ) (some : isEmptyIn w ≡ false) where
                 };
             refuses = λ e. absurd (never (sym e));
             right = λ h. refl;
+            held = λ e. subst Held (sym held-is) (record { sound = sound; some = left });
           }
 
       pub last : {v c : List ℕ} → cursor.over plan behind ≡ true → PutMeets w Nothing v → c ≡ laid b 0 (recordBytes (listed o made)) → GiveMeets w b true v c

@@ -20,11 +20,11 @@ use Rattle.ahead.proofs.Places.{FoundIn, program-on}
 use Rattle.taking.specs.Steps.{Task}
 use Rattle.taking.specs.Hands.{inHand}
 use Rattle.taking.specs.declared.Hand.{Hand}
-use Rattle.taking.specs.declared.Hand.the-variants.{Nothing}
+use Rattle.taking.specs.declared.Hand.the-variants.{Nothing, Block}
 use Rattle.resuming.specs.Handed.{Made, Left, Takes}
 use Rattle.resuming.specs.declared.Handed.the-variants as handed
 use Rattle.resuming.specs.Engines.{ahead, joined, remaining}
-use Rattle.paused.specs.Kept.{Fitting}
+use Rattle.paused.specs.Kept.{Fitting, Answers}
 use Rattle.paused.specs.declared.Phase.{Phase}
 use Rattle.paused.specs.declared.Phase.the-variants.{Running, Over}
 use Rattle.paused.specs.declared.Going.{Going}
@@ -41,7 +41,7 @@ use Rattle.runwords.specs.Taken.{goingOf, phaseOf as wordPhase}
 use Rattle.inhand.specs.State.{isEmptyIn, goingIn, GiveMeets}
 use Rattle.telling.proofs.Tells.{never}
 use Rattle.settings.specs.declared.Settings.{Settings}
-use Rattle.onemove.specs.OneMove.{running, Lent, Stood, Holds, Lawful, Touches, AskMeets, NextMeets, CanGoOn, FirstMeets, Gives}
+use Rattle.onemove.specs.OneMove.{running, Lent, Stood, Holds, Lawful, Touches, CanGoOn, CanTell, CanAsk, Exactly, AskMeets, NextMeets, FirstMeets, Gives}
 
 -- ---- what is left, with records in hand
 ahead-same : (t : Task) (g : Going) (k l : List Made) (p : Phase) → ahead t (phaseOf p) (standing k g) ≡ ahead t (phaseOf p) (standing l g)
@@ -112,13 +112,14 @@ module _ (tape : List ℕ) (table numbers : List ℤ) (places : List ℕ) where
             subst (λ (y : Hand). Stood tape table numbers places y (runIn v) behind) (sym hand) (subst (λ (y : Going). Stood tape table numbers places k y behind) (sym run) stood-behind)
 
   -- ---- the run is over
-  pub over-lawful : (w : List ℕ) (x : Left) → Holds tape table numbers places w x → handIn w ≡ Nothing → (a : Answer) → runIn w .phase ≡ Over a → (b : List ℕ) → Lawful tape table numbers places x b (told.Over a) w b
-  over-lawful w x m none a over b =
+  over-is : (w : List ℕ) (x : Left) → Holds tape table numbers places w x → handIn w ≡ Nothing → (a : Answer) → runIn w .phase ≡ Over a → x ≡ record { records = []; answer = a }
+  over-is w x m none a over =
       let s = m .stood in
       let t = taskAt (runIn w .end) (s .first) in
-      let is : x ≡ record { records = []; answer = a } =
-      sym (s .same) ∙ ap (λ (h : Hand). leftFor t (inHand h) (runIn w)) none ∙ ap (λ (l : List Made). leftFor t l (runIn w)) none-in-hand ∙ over-left t (runIn w) a over in
-      record { handed = handed.Over a; left = x; takes = takes-over x a is; hands = (refl, refl); holds = m }
+      sym (s .same) ∙ ap (λ (h : Hand). leftFor t (inHand h) (runIn w)) none ∙ ap (λ (l : List Made). leftFor t l (runIn w)) none-in-hand ∙ over-left t (runIn w) a over
+
+  pub over-lawful : (w : List ℕ) (x : Left) → Holds tape table numbers places w x → handIn w ≡ Nothing → (a : Answer) → runIn w .phase ≡ Over a → (b : List ℕ) → Lawful tape table numbers places x b (told.Over a) w b
+  over-lawful w x m none a over b = record { handed = handed.Over a; left = x; takes = takes-over x a (over-is w x m none a over); hands = (refl, refl); holds = m }
 
   -- ---- turns
   module _ (g : Going) (x : Left) (s : Stood tape table numbers places Nothing g x) (on : g .phase ≡ Running) (t : Turned)
@@ -189,24 +190,62 @@ run-is w = refl
 found-before : (tape : List ℕ) (first : ℕ) (p : ProgramAt) → FoundAt tape first p → p .line < length tape
 found-before tape first p e = subst (FoundIn (length tape)) e (program-on (p .number) tape first)
 
+-- ---- what an ask tells
+abbrev kindOf : Told → ℕ
+kindOf told.Move = 0
+kindOf (told.Over a) = 1
+kindOf told.Refused = 2
+
+abbrev answerIn : Told → Answer → Answer
+answerIn told.Move d = d
+answerIn (told.Over a) d = a
+answerIn told.Refused d = d
+
+-- ---- what is in hand
+some-held : (tape : List ℕ) (table numbers : List ℤ) (places : List ℕ) (h : Hand) (g : Going) → CanAsk tape table numbers places h g → Held h
+some-held tape table numbers places Nothing g k = record { sound = tt; some = tt }
+some-held tape table numbers places (Block c o) g k = k
+
+-- what has a record is a block
+held-asks : (tape : List ℕ) (table numbers : List ℤ) (places : List ℕ) (h : Hand) (g : Going) {l : Listed} {ls : List Made} → inHand h ≡ l ∷ ls → Held h → CanAsk tape table numbers places h g
+held-asks tape table numbers places Nothing g e k = absurd (omega (arith, ap length (sym none-in-hand ∙ e)))
+held-asks tape table numbers places (Block c o) g e k = k
+
 -- ---- what an ask comes to
 module _ (tape : List ℕ) (table numbers : List ℤ) (places : List ℕ) where
   abbrev Meets : List ℕ → List ℕ → Told → List ℕ → List ℕ → Type 0
   Meets w b r v c = AskMeets tape table numbers places w b r v c
 
   -- words that no start made are refused
-  pub refused-ask : (w b v c : List ℕ) → v ≡ w → c ≡ b → ((x : Left) → Holds tape table numbers places w x → ⊥) → Meets w b told.Refused v c
-  refused-ask w b v c e f made = record { lawful = λ x m. absurd (made x m); refused = λ _. e; touches = f; long = ap length e }
+  pub refused-ask : (w b v c : List ℕ) → v ≡ w → c ≡ b → ((x : Left) → Holds tape table numbers places w x → ⊥)
+      → (length w ≡ stateWords → CanAsk tape table numbers places (handIn w) (runIn w) → ⊥) → Meets w b told.Refused v c
+  refused-ask w b v c e f made cannot =
+      record {
+        lawful = λ x m. absurd (made x m);
+        refused = λ _. e;
+        exactly = λ l. record { able = λ k _. cannot l k; unable = λ _. refl };
+        touches = f;
+        long = ap length e;
+        fits = λ a z. absurd (omega (arith, ap kindOf z));
+      }
 
   module _ (w b : List ℕ) (none : handIn w ≡ Nothing) (on : runIn w .phase ≡ Running) where
     lent-in : (x : Left) → Holds tape table numbers places w x → (unfit numbers ≡ false) × Ready Running tape table (settingsOf numbers) places (runIn w)
     lent-in x m = subst (λ (p : Phase). Lent p tape table numbers places (runIn w)) on (m .stood .lent)
 
+    -- what can be asked of it
+    tells : CanAsk tape table numbers places (handIn w) (runIn w) → CanTell Running tape table numbers places (runIn w)
+    tells k = subst (λ (p : Phase). CanTell p tape table numbers places (runIn w)) on (subst (λ (h : Hand). CanAsk tape table numbers places h (runIn w)) none k)
+
+    asks : CanTell Running tape table numbers places (runIn w) → CanAsk tape table numbers places (handIn w) (runIn w)
+    asks k = subst (λ (h : Hand). CanAsk tape table numbers places h (runIn w)) (sym none) (subst (λ (p : Phase). CanTell p tape table numbers places (runIn w)) (sym on) k)
+
     pub unfit-ask : unfit numbers ≡ true → Meets w b told.Refused w b
-    unfit-ask e = refused-ask w b w b refl refl (λ x m. never (sym (lent-in x m .0) ∙ e))
+    unfit-ask e = refused-ask w b w b refl refl (λ x m. never (sym (lent-in x m .0) ∙ e)) (λ _ k. never (sym (tells k .0) ∙ e))
 
     pub wrong-ask : {s : Settings} → s ≡ settingsOf numbers → settingsWrong table s ≡ true → Meets w b told.Refused w b
     wrong-ask is e = refused-ask w b w b refl refl (λ x m. never (sym (lent-in x m .1 .0) ∙ ap (settingsWrong table) (sym is) ∙ e))
+        (λ _ k. never (sym (tells k .1) ∙ ap (settingsWrong table) (sym is) ∙ e))
 
     -- the present program is on the tape, so that something of it was read
     read-some : (x : Left) → Holds tape table numbers places w x → 0 < runIn w .end
@@ -219,6 +258,7 @@ module _ (tape : List ℕ) (table numbers : List ℤ) (places : List ℕ) where
     cannot-ask is stuck =
         refused-ask w b w b refl refl
         (λ x m. stuck (subst (CanGoOn (length tape) (length places)) (sym is) (record { kept = m .stood .kept; state = m .stood .state; some = read-some x m; end = lent-in x m .1 .1; filled = lent-in x m .1 .2 })))
+        (λ _ k. stuck (subst (CanGoOn (length tape) (length places)) (sym is) (tells k .2)))
 
     touched : (t : Turned) (r : Told) (v c : List ℕ) → FirstMeets t b r v c → Touches r b c
     touched t told.Move v c f = record { listed = f .gives .listed; is = f .gives .bytes }
@@ -228,17 +268,19 @@ module _ (tape : List ℕ) (table numbers : List ℤ) (places : List ℕ) where
     not-refused : (t : Turned) (r : Told) (v c : List ℕ) → FirstMeets t b r v c → r ≡ told.Refused → v ≡ w
     not-refused t r v c f e = absurd (subst (λ (y : Told). Gives y (t .hand) (t .going .phase) b v c) e (f .gives))
 
-    pub turned-ask : length w ≡ stateWords → {g : Going} → g ≡ runIn w → {s : Settings} → s ≡ running numbers → (t : Turned) → TurnMeets (take (g .end) tape) table s places g t → (r : Told) (v c : List ℕ)
+    pub turned-ask : length w ≡ stateWords → CanTell Running tape table numbers places (runIn w) → {g : Going} → g ≡ runIn w → {s : Settings} → s ≡ running numbers → (t : Turned) → TurnMeets (take (g .end) tape) table s places g t → (r : Told) (v c : List ℕ)
         → FirstMeets t b r v c → Meets w b r v c
-    turned-ask long {g} is {s} sets t m r v c f =
+    turned-ask long can {g} is {s} sets t m r v c f =
         record {
           lawful = λ x k.
               first-lawful tape table numbers places g x
               (subst (λ (h : Hand). Stood tape table numbers places h g x) none (subst (λ (y : Going). Stood tape table numbers places (handIn w) y x) (sym is) (k .stood)))
               (ap (λ (y : Going). y .phase) is ∙ on) t (subst (λ (y : Settings). TurnMeets (take (g .end) tape) table y places g t) sets m) b r v c f;
           refused = not-refused t r v c f;
+          exactly = λ _. record { able = λ k z. subst (λ (y : Told). Gives y (t .hand) (t .going .phase) b v c) z (f .gives); unable = λ n. absurd (n (asks can)) };
           touches = touched t r v c f;
           long = f .long ∙ sym long;
+          fits = λ a z. subst Answers (subst (λ (y : Told). Gives y (t .hand) (t .going .phase) b v c) z (f .gives) .1) (m .kept .answer);
         }
 
   -- ---- a block that has records
@@ -247,28 +289,45 @@ module _ (tape : List ℕ) (table numbers : List ℤ) (places : List ℕ) where
       let k = g .gives e in
       record {
         lawful = λ x m. given-lawful tape table numbers places w x m b v c k;
-        refused = λ z. absurd (told-apart z);
+        refused = λ z. absurd (omega (arith, ap kindOf z));
+        exactly = λ _.
+            record {
+              able = λ _ z. absurd (omega (arith, ap kindOf z));
+              unable = λ n. absurd (n (held-asks tape table numbers places (handIn w) (runIn w) (k .first) (g .held e)));
+            };
         touches = record { listed = k .listed; is = k .bytes };
         long = k .long ∙ sym long;
+        fits = λ a z. absurd (omega (arith, ap kindOf z));
       }
-    where
-      told-apart : told.Move ≡ told.Refused → ⊥
-      told-apart z = subst (λ (y : Told). Apart y) z tt
-        where
-          Apart : Told → Type 0
-          Apart told.Move = Unit {0}
-          Apart (told.Over a) = Unit {0}
-          Apart told.Refused = ⊥
 
   pub not-given-ask : (w b v c : List ℕ) (r : Bool) → GiveMeets w b r v c → r ≡ false → Meets w b told.Refused v c
   not-given-ask w b v c r g e =
       let k = g .refuses e in
       refused-ask w b v c (k .0) (k .1) (λ x m. never (sym e ∙ g .right (m .stood .held)))
+      (λ _ h. never (sym e ∙ g .right (some-held tape table numbers places (handIn w) (runIn w) h)))
 
   -- ---- the answer again
-  pub over-ask : (w b : List ℕ) → handIn w ≡ Nothing → (a : Answer) → runIn w .phase ≡ Over a → Meets w b (told.Over a) w b
-  over-ask w b none a over =
-      record { lawful = λ x m. over-lawful tape table numbers places w x m none a over b; refused = λ z. refl; touches = refl; long = refl }
+  module _ (w b : List ℕ) (none : handIn w ≡ Nothing) where
+    over-asks : (a : Answer) → runIn w .phase ≡ Over a → Fitting a → CanAsk tape table numbers places (handIn w) (runIn w)
+    over-asks a over fit = subst (λ (h : Hand). CanAsk tape table numbers places h (runIn w)) (sym none) (subst (λ (p : Phase). CanTell p tape table numbers places (runIn w)) (sym over) fit)
+
+    pub over-ask : (a : Answer) → runIn w .phase ≡ Over a → Fitting a → Meets w b (told.Over a) w b
+    over-ask a over fit =
+        record {
+          lawful = λ x m. over-lawful tape table numbers places w x m none a over b;
+          refused = λ z. refl;
+          exactly = λ _. record { able = λ _ z. absurd (omega (arith, ap kindOf z)); unable = λ n. absurd (n (over-asks a over fit)) };
+          touches = refl;
+          long = refl;
+          fits = λ d z. subst Fitting (ap (λ (y : Told). answerIn y a) z) fit;
+        }
+
+    -- an answer whose place or count has more than 16 bits is that of no run
+    pub unfitting-ask : (p : Phase) → runIn w .phase ≡ p → (Answers p → ⊥) → Meets w b told.Refused w b
+    unfitting-ask Running is n = absurd (n tt)
+    unfitting-ask (Over a) is n =
+        refused-ask w b w b refl refl (λ x m. n (subst (λ (y : Left). Fitting (y .answer)) (over-is tape table numbers places w x m none a is) (m .stood .fits)))
+        (λ _ k. n (subst (λ (p : Phase). CanTell p tape table numbers places (runIn w)) is (subst (λ (h : Hand). CanAsk tape table numbers places h (runIn w)) none k)))
 
   -- ---- any words and any bytes
   abbrev NextIs : List ℕ → List ℕ → Told → List ℕ → List ℕ → Type 0
@@ -277,9 +336,10 @@ module _ (tape : List ℕ) (table numbers : List ℤ) (places : List ℕ) where
   pub next-other : (w b : List ℕ) → (length w ≡ stateWords → ⊥) → NextIs w b told.Refused w b
   next-other w b n =
       record {
-        asks = λ _. refused-ask w b w b refl refl (λ x m. n (m .long));
+        asks = λ _. refused-ask w b w b refl refl (λ x m. n (m .long)) (λ l _. n l);
         short = λ _. record { told = refl; words = refl; bytes = refl };
         other = λ _. record { told = refl; words = refl; bytes = refl };
+        fits = λ a z. absurd (omega (arith, ap kindOf z));
       }
 
   pub next-short : (w b : List ℕ) → length b < recordSize → NextIs w b told.Refused w b
@@ -288,7 +348,8 @@ module _ (tape : List ℕ) (table numbers : List ℤ) (places : List ℕ) where
         asks = λ h. absurd (omega (arith, n, h));
         short = λ _. record { told = refl; words = refl; bytes = refl };
         other = λ _. record { told = refl; words = refl; bytes = refl };
+        fits = λ a z. absurd (omega (arith, ap kindOf z));
       }
 
   pub next-asks : (w b : List ℕ) → length w ≡ stateWords → recordSize ≤ length b → (r : Told) (v c : List ℕ) → Meets w b r v c → NextIs w b r v c
-  next-asks w b long room r v c m = record { asks = λ _. m; short = λ h. absurd (omega (arith, room, h)); other = λ n. absurd (n long) }
+  next-asks w b long room r v c m = record { asks = λ _. m; short = λ h. absurd (omega (arith, room, h)); other = λ n. absurd (n long); fits = m .fits }

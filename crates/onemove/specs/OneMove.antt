@@ -12,14 +12,16 @@ use Rattle.moves.specs.Form.{recordSize, recordBytes}
 use Rattle.moves.specs.declared.Listed.{Listed}
 use Rattle.panel.specs.Row.{unfit, settingsOf}
 use Rattle.settings.specs.Points.{withPoints}
+use Rattle.settings.specs.Wrong.{settingsWrong}
 use Rattle.settings.specs.declared.Settings.{Settings}
 use Rattle.state.specs.Known.{Sound}
+use Rattle.answers.specs.declared.Answer.{Answer}
 use Rattle.interpreter.specs.Answers.{Result, refused, interpretation, placesOf}
 use Rattle.resuming.specs.declared.Handed.{Handed}
 use Rattle.resuming.specs.declared.Handed.the-variants as handed
 use Rattle.resuming.specs.Handed.{Left, leftOf, Takes, roomy}
 use Rattle.taking.specs.declared.Hand.{Hand}
-use Rattle.taking.specs.declared.Hand.the-variants.{Nothing}
+use Rattle.taking.specs.declared.Hand.the-variants.{Nothing, Block}
 use Rattle.taking.specs.Hands.{inHand}
 use Rattle.paused.specs.Kept.{Fitting, Kept}
 use Rattle.paused.specs.declared.Phase.{Phase}
@@ -96,13 +98,37 @@ Touches told.Move b c = Laid b c
 Touches (told.Over a) b c = c ≡ b
 Touches told.Refused b c = c ≡ b
 
--- with the words w and the bytes b before, v and c after it. Of words that hold nothing only this is said: as many there are as before, where they are refused all is as it came, and only a record touches
--- the bytes
+-- ---- WORDS THAT CAN BE ASKED, with what is lent: a block in hand that has a record left; where nothing is in hand, an answer whose place and count have 16 bits, or a run that can go on: its numbers are within
+-- their bounds, something of a tape was read, the tape and the table of places are as long as it needs them, and settings and table are not alarm 1
+pub record CanGoOn (tape places : ℕ) (g : Going) : Type 0 where
+  pub kept : Kept g
+  pub state : Sound (g .run .state)
+  pub some : 0 < g .end
+  pub end : g .end ≤ tape
+  pub filled : g .filled ≤ places
+
+abbrev pub CanTell : Phase → List ℕ → List ℤ → List ℤ → List ℕ → Going → Type 0
+CanTell (Over a) tape table numbers places g = Fitting a
+CanTell Running tape table numbers places g = (unfit numbers ≡ false) × (settingsWrong table (settingsOf numbers) ≡ false) × CanGoOn (length tape) (length places) g
+
+abbrev pub CanAsk : List ℕ → List ℤ → List ℤ → List ℕ → Hand → Going → Type 0
+CanAsk tape table numbers places (Block c o) g = Held (Block c o)
+CanAsk tape table numbers places Nothing g = CanTell (g .phase) tape table numbers places g
+
+-- of a state's count of words: those that can be asked are not refused, and all others are
+pub record Exactly (tape : List ℕ) (table numbers : List ℤ) (places w : List ℕ) (r : Told) : Type 0 where
+  pub able : CanAsk tape table numbers places (handIn w) (runIn w) → r ≡ told.Refused → ⊥
+  pub unable : (CanAsk tape table numbers places (handIn w) (runIn w) → ⊥) → r ≡ told.Refused
+
+-- with the words w and the bytes b before, v and c after it. Of words that hold nothing this is said: they are refused where they cannot be asked; as many there are as before, where they are refused all is as
+-- it came, and only a record touches the bytes; an answer that is told has 16 bits for its place and its count
 pub record AskMeets (tape : List ℕ) (table numbers : List ℤ) (places w b : List ℕ) (r : Told) (v c : List ℕ) : Type 0 where
   pub lawful : (x : Left) → Holds tape table numbers places w x → Lawful tape table numbers places x b r v c
   pub refused : r ≡ told.Refused → v ≡ w
+  pub exactly : length w ≡ stateWords → Exactly tape table numbers places w r
   pub touches : Touches r b c
   pub long : length v ≡ length w
+  pub fits : (a : Answer) → r ≡ told.Over a → Fitting a
 
 -- nothing was done
 pub record Refuses (w b : List ℕ) (r : Told) (v c : List ℕ) : Type 0 where
@@ -110,11 +136,12 @@ pub record Refuses (w b : List ℕ) (r : Told) (v c : List ℕ) : Type 0 where
   pub words : v ≡ w
   pub bytes : c ≡ b
 
--- NO WORDS AND NO BYTES BREAK ANYTHING: words of another count, and bytes without room for a record, are refused
+-- NO WORDS AND NO BYTES BREAK ANYTHING: words of another count, and bytes without room for a record, are refused; an answer that is told has 16 bits for its place and its count
 pub record NextMeets (tape : List ℕ) (table numbers : List ℤ) (places w b : List ℕ) (r : Told) (v c : List ℕ) : Type 0 where
   pub asks : recordSize ≤ length b → AskMeets tape table numbers places w b r v c
   pub short : length b < recordSize → Refuses w b r v c
   pub other : (length w ≡ stateWords → ⊥) → Refuses w b r v c
+  pub fits : (a : Answer) → r ≡ told.Over a → Fitting a
 
 -- ---- A START
 -- the run that is started has all to hand out that is wanted
@@ -142,13 +169,6 @@ pub record InTurn (tape : List ℕ) (table numbers : List ℤ) (places : List �
   pub each : (k : ℕ) → NextMeets tape table numbers places (w k) (b k) (r k) (w (suc k)) (c k)
 
 -- ---- what is known of the parts. It serves contracts and proofs
-pub record CanGoOn (tape places : ℕ) (g : Going) : Type 0 where
-  pub kept : Kept g
-  pub state : Sound (g .run .state)
-  pub some : 0 < g .end
-  pub end : g .end ≤ tape
-  pub filled : g .filled ≤ places
-
 -- of what is in hand the first record was given, and the words have the others
 pub record OneGiven (h : Hand) (w b v c : List ℕ) : Type 0 where
   pub listed : Listed

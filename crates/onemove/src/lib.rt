@@ -139,6 +139,9 @@ pub fn next(
         return Told::Refused;
     }
     let phase = runwords::phase_of(&state[inhand::GOING..]);
+    if !runbounds::is_fitting(phase) {
+        return Told::Refused;
+    }
     match phase {
         Phase::Over(again) => Told::Over(again),
         Phase::Running => go_on(tape, table, settings, places, state, record),

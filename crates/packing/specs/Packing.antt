@@ -19,9 +19,9 @@ pub record Fits (a : Answer) : Type 0 where
   pub place : placeOf a < 65_536
   pub count : countOf a < 65_536
 
--- the same of any answer: of a place or a count that has more bits the lowest 16
+-- the number itself
 abbrev pub answerNumber : Answer → ℕ
-answerNumber a = countOf a % sixteenBits + sixteenBits * (placeOf a % sixteenBits + sixteenBits * numberOf a)
+answerNumber a = countOf a + sixteenBits * (placeOf a + sixteenBits * numberOf a)
 
 -- what an ask tells, as one number: nothing of a record, bit 40 with an answer, bit 41 where nothing was done
 abbrev pub over : ℕ
@@ -34,3 +34,9 @@ abbrev pub toldNumber : Told → ℕ
 toldNumber told.Move = 0
 toldNumber (told.Over a) = over + answerNumber a
 toldNumber told.Refused = refused
+
+-- of an ask that tells an answer
+abbrev pub FitsTold : Told → Type 0
+FitsTold told.Move = Unit {0}
+FitsTold (told.Over a) = Fits a
+FitsTold told.Refused = Unit {0}

@@ -2,7 +2,7 @@
 use answers::Answer;
 ghost use mathlib.Core.Path.{_≡_};
 ghost use Prim.Native.Nat.{_+_, _*_, _<_};
-ghost use Rattle.packing.specs.Packing.{Fits, Packed, answerNumber, over, toldNumber};
+ghost use Rattle.packing.specs.Packing.{Fits, Packed, answerNumber, toldNumber, FitsTold};
 
 // What an ask comes to: a record, which is laid at the front of the lent bytes; the answer of the run; or words that are no state, or bytes that have no room for a record.
 pub enum Told {
@@ -22,7 +22,8 @@ fn packed(alarm: u8, place: usize, count: usize) -> u64
 // The same of an answer.
 pub fn packed_answer(answer: Answer) -> u64
     requires { ⌜ Fits answer ⌝ }
-    ensures { λ r. ⌜ Packed answer r ⌝ }
+    ensures bits { λ r. ⌜ Packed answer r ⌝ }
+    ensures number { λ r. ⌜ r ≡ answerNumber answer ⌝ }
 {
     match answer {
         Answer::Complete(count) => packed(0, 0, count),
@@ -35,26 +36,13 @@ pub const TOLD_OVER: u64 = 1_099_511_627_776;
 
 pub const TOLD_REFUSED: u64 = 2_199_023_255_552;
 
-// 16 bits have a place and a count. (Words from elsewhere may have others.)
-const SIXTEEN_BITS: usize = 65_536;
-
-pub fn answer_number(answer: Answer) -> u64
-    ensures { λ r. ⌜ (r ≡ answerNumber answer) × (r < over) ⌝ }
-{
-    match answer {
-        Answer::Complete(count) => packed(0, 0, count % SIXTEEN_BITS),
-        Answer::Alarm(alarm, place, count) => {
-            packed(alarm, place % SIXTEEN_BITS, count % SIXTEEN_BITS)
-        }
-    }
-}
-
 pub fn told_number(told: Told) -> u64
+    requires { ⌜ FitsTold told ⌝ }
     ensures { λ r. ⌜ r ≡ toldNumber told ⌝ }
 {
     match told {
         Told::Move => 0,
-        Told::Over(answer) => TOLD_OVER + answer_number(answer),
+        Told::Over(answer) => TOLD_OVER + packed_answer(answer),
         Told::Refused => TOLD_REFUSED,
     }
 }

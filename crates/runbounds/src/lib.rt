@@ -30,7 +30,7 @@ fn wait_within(waiting: [Waiting; runwords::MOST_WAITING], end: usize) -> bool
 }
 
 // Whether the place and the count of the answer, where the run has come to one, have 16 bits.
-fn is_fitting(phase: Phase) -> bool
+pub fn is_fitting(phase: Phase) -> bool
     ensures sound { λ r. ⌜ (r ≡ true → Answers phase) ⌝ }
     ensures all { λ r. ⌜ (Answers phase → r ≡ true) ⌝ }
 {

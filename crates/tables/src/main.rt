@@ -91,7 +91,7 @@ fn show_lent(tape: &[u8], table: &[i32], settings: &[i32], places: &mut [u64], b
     let packed = board::tm02_interpret(tape, table, settings, places, buf);
     show_listing(comparing::unpacked(packed), buf);
     show_entries(places);
-    show_moves(comparing::asked::judge_moves(tape, table, settings));
+    show_moves(comparing::asked::judge_moves(tape, table, settings, places));
 }
 
 // Lends the tape the table, the table of places and the buffer that its case asks for, and no number and no byte more.

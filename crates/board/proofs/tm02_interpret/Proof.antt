@@ -10,7 +10,7 @@ use Rattle.board.proofs.tm02_interpret.Tie as tie
 returns : tie.Need-returns
 returns c =
     let a = c .before .before .before .before .before .before .args in
-    refused-here (now (a .tape)) (now (a .table)) (now (a .settings)) (now (a .places)) (now (a .buf)) (sym (c .before .before .unfit .ensures) ∙ c .before .if1 .taken) (c .packed-answer .ensures)
+    refused-here (now (a .tape)) (now (a .table)) (now (a .settings)) (now (a .places)) (now (a .buf)) (sym (c .before .before .unfit .ensures) ∙ c .before .if1 .taken) (c .packed-answer .ensures .0)
 
 settings-of-requires : tie.Need-settings-of-requires
 settings-of-requires c κs = all-there (now (c .before .before .before .before .before .args .settings)) (sym (c .before .unfit .ensures) ∙ c .if1 .left)
@@ -27,7 +27,7 @@ returns-2 c =
     let e = o .before in
     let a = c .before .before .before .before .before .before .before .before .before .before .before .before .before .before .args in
     ran-here (now (a .tape)) (now (a .table)) (now (a .settings)) (now (a .places)) (now (a .buf)) (sym (e .before .unfit .ensures) ∙ e .if1 .left)
-    (o .settings-of .ensures) (run .ensures .0) (c .packed-answer2 .ensures) (run .ensures .1 .0) (run .ensures .1 .1)
+    (o .settings-of .ensures) (run .ensures .0) (c .packed-answer2 .ensures .0) (run .ensures .1 .0) (run .ensures .1 .1)
 
 pub tm02-interpret-spec : {M : Type 1} → statement M
 tm02-interpret-spec =

@@ -78,7 +78,7 @@ returns-3 c =
     let next = laid .before .before .before in
     let n = next .before .before .before in
     let s = start n in
-    last (s .args .state .now) (s .args .«record» .now) (s .pre .1) (read-of n) _ _ (next .next .ensures) (sym (over .is-over2 .ensures) ∙ branch .if3 .taken)
+    last (s .args .state .now) (s .args .«record» .now) (s .pre .1) (read-of n) _ _ (next .next .ensures) (read-sound (read-of n) (fits n)) (sym (next .before .before .is-over .ensures) ∙ next .before .if2 .left) (sym (over .is-over2 .ensures) ∙ branch .if3 .taken)
     (put .put-nothing .ensures) (laid .put-record .ensures)
 
 put-due-requires : tie.Need-put-due-requires
@@ -93,7 +93,7 @@ returns-4 c =
     let next = laid .before .before .before in
     let n = next .before .before .before in
     let s = start n in
-    more (s .args .state .now) (s .args .«record» .now) (s .pre .1) (read-of n) _ _ (next .next .ensures) (sym (over .is-over2 .ensures) ∙ branch .if3 .left)
+    more (s .args .state .now) (s .args .«record» .now) (s .pre .1) (read-of n) _ _ (next .next .ensures) (read-sound (read-of n) (fits n)) (sym (next .before .before .is-over .ensures) ∙ next .before .if2 .left) (sym (over .is-over2 .ensures) ∙ branch .if3 .left)
     (put .put-due .ensures) (laid .put-record .ensures)
 
 pub give-any-spec : {M : Type 1} → statement M

@@ -1,6 +1,7 @@
 -- `onemove::go_on` meets its contract.
 use mathlib.Core.Path.{_≡_, sym, ap, subst, _∙_}
 use mathlib.Core.Bool.{false}
+use lib.ListN.{length}
 use lib.Seq.{length-take-le}
 use borrow.Author.Needs.{needs}
 use borrow.Author.Tests.{not-true, not-false}
@@ -15,7 +16,9 @@ use Rattle.telling.proofs.Tells.{told-no}
 use Rattle.runwords.specs.Taken.{goingOf}
 use Rattle.runbounds.proofs.Keeping.{kept-small}
 use Rattle.paused.specs.declared.Going.{Going}
+use Rattle.paused.specs.declared.Phase.the-variants.{Running}
 use Rattle.inhand.specs.State.{runIn}
+use Rattle.onemove.specs.OneMove.{CanGoOn, CanTell}
 use Rattle.onemove.proofs.Asking.{to-end, run-is, unfit-ask, wrong-ask, cannot-ask, turned-ask}
 use Rattle.onemove.proofs.go_on.Statement.{statement}
 use Rattle.onemove.proofs.go_on.Tie as tie
@@ -82,6 +85,19 @@ advance-requires c κs =
       ap (λ (g : Going). g .phase) (is-run k) ∙ s .pre .2,
     )
 
+-- what can be asked of the words
+can-tell : (x : tie.Else3)
+    → let a = begun (x .before .before) .args in CanTell Running (now (a .tape)) (now (a .table)) (now (a .settings)) (now (a .places)) (runIn (now (a .state)))
+can-tell x =
+    let k = x .before .before in
+    let a = begun k .args in
+    let e = k .before .before .before in
+    let u = e .before .before .before in (
+      sym (u .before .unfit .ensures) ∙ u .if1 .left,
+      ap (settingsWrong (now (a .table))) (sym (e .before .before .settings-of .ensures)) ∙ fine e,
+      subst (CanGoOn (length (now (a .tape))) (length (now (a .places)))) (is-run k) (x .before .can-go-on .ensures .0 (not-false _ (x .if3 .left))),
+    )
+
 give-first-requires : tie.Need-give-first-requires
 give-first-requires c κs =
     let v = c .before .before .advance in
@@ -96,7 +112,7 @@ returns-4 c =
     let k = c .before .before .before .before .before .before .before .before .before .before .before .before in
     let s = begun k in
     let a = s .args in
-    turned-ask (now (a .tape)) (now (a .table)) (now (a .settings)) (now (a .places)) (now (a .state)) (now (a .«record»)) (s .pre .1) (s .pre .2) (s .pre .0) (is-run k)
+    turned-ask (now (a .tape)) (now (a .table)) (now (a .settings)) (now (a .places)) (now (a .state)) (now (a .«record»)) (s .pre .1) (s .pre .2) (s .pre .0) (can-tell (c .before .before .before .before .before .before .before .before .before .before)) (is-run k)
     (w .with-points .ensures ∙ ap (withPoints false) (c .before .before .before .before .before .before .before .before .before .before .before .before .before .before .before .before .before .settings-of .ensures)) (v .result) (v .ensures .0) (f .result) (f .last .0) (f .last .1 .1 .0) (f .ensures)
 
 pub go-on-spec : {M : Type 1} → statement M

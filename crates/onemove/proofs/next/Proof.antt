@@ -1,5 +1,5 @@
 -- `onemove::next` meets its contract.
-use mathlib.Core.Path.{_≡_, sym, ap, _∙_}
+use mathlib.Core.Path.{_≡_, sym, ap, subst, _∙_}
 use mathlib.Core.List.{List}
 use native.Mathlib.Omega.{arith}
 use Prim.Native.Nat.{ℕ}
@@ -8,10 +8,12 @@ use lib.Seq.{length-take-le}
 use borrow.Author.Needs.{needs}
 use borrow.Author.Tests.{not-true, not-false}
 use denote.Ref.{now}
+use Rattle.telling.proofs.Tells.{told-no}
 use Rattle.runwords.specs.Taken.{phaseOf}
+use Rattle.paused.specs.Kept.{Answers}
 use Rattle.taking.specs.declared.Hand.the-variants.{Nothing}
 use Rattle.inhand.specs.State.{stateWords, handIn, runIn}
-use Rattle.onemove.proofs.Asking.{to-end, empty-hand, run-phase, given-ask, not-given-ask, over-ask, next-other, next-short, next-asks}
+use Rattle.onemove.proofs.Asking.{to-end, empty-hand, run-phase, given-ask, not-given-ask, over-ask, unfitting-ask, next-other, next-short, next-asks}
 use Rattle.onemove.proofs.next.Statement.{statement}
 use Rattle.onemove.proofs.next.Tie as tie
 
@@ -73,22 +75,33 @@ module _ (k : tie.After-phase-of) where
 
 go-on-requires : tie.Need-go-on-requires
 go-on-requires c κs =
-    let k = c .before .before .before .before in
+    let k = c .before .before .before .before .before .before in
     (long (asked k), none k, is-phase k ∙ c .before .before .enum-told .given .1, asked k .if2 .left)
 
+-- an answer with a place or a count of more than 16 bits
 returns-5 : tie.Need-returns-5
 returns-5 c =
-    let k = c .before .before .before in
+    let k = c .before .before in
     let a = begun (asked k) .args in
     next-asks (now (a .tape)) (now (a .table)) (now (a .settings)) (now (a .places)) (now (a .state)) (now (a .«record»)) (long (asked k)) (asked k .if2 .left) _ (now (a .state)) (now (a .«record»))
-    (over-ask (now (a .tape)) (now (a .table)) (now (a .settings)) (now (a .places)) (now (a .state)) (now (a .«record»)) (none k) (c .before .phase .given .0 .0) (is-phase k ∙ c .before .phase .given .1))
+    (unfitting-ask (now (a .tape)) (now (a .table)) (now (a .settings)) (now (a .places)) (now (a .state)) (now (a .«record»)) (none k) (k .phase-of .result) (is-phase k)
+    (told-no (c .before .is-fitting .ensures) (not-true _ (c .if5 .taken))))
 
 returns-6 : tie.Need-returns-6
 returns-6 c =
+    let fits = c .before .before .before in
+    let k = fits .before .before in
+    let a = begun (asked k) .args in
+    next-asks (now (a .tape)) (now (a .table)) (now (a .settings)) (now (a .places)) (now (a .state)) (now (a .«record»)) (long (asked k)) (asked k .if2 .left) _ (now (a .state)) (now (a .«record»))
+    (over-ask (now (a .tape)) (now (a .table)) (now (a .settings)) (now (a .places)) (now (a .state)) (now (a .«record»)) (none k) (c .before .phase .given .0 .0) (is-phase k ∙ c .before .phase .given .1)
+    (subst Answers (c .before .phase .given .1) (fits .before .is-fitting .ensures .0 (not-false _ (fits .if5 .left)))))
+
+returns-7 : tie.Need-returns-7
+returns-7 c =
     let g = c .before .before .before .before .go-on in
-    let k = c .before .before .before .before .before .before .before .before .before in
+    let k = c .before .before .before .before .before .before .before .before .before .before .before in
     let a = begun (asked k) .args in
     next-asks (now (a .tape)) (now (a .table)) (now (a .settings)) (now (a .places)) (now (a .state)) (now (a .«record»)) (long (asked k)) (asked k .if2 .left) (g .result) (g .last .1 .1 .1 .1 .0) (g .last .1 .1 .1 .1 .1 .0) (g .ensures)
 
 pub next-spec : {M : Type 1} → statement M
-next-spec = tie.close (tie.spec returns returns-2 (λ c. search needs) slice-aggregate-is-empty is-empty-requires give-next-requires (λ c. search needs) (λ c. search needs) returns-3 (λ c. search needs) (λ c. search needs) returns-4 (λ c. search needs) (λ c. search needs) (λ c. search needs) (λ c κs. search needs) (λ c. search needs) (λ c. search needs) go-on-requires (λ c. search needs) returns-5 (λ c. search needs) (λ c. search needs) returns-6)
+next-spec = tie.close (tie.spec returns returns-2 (λ c. search needs) slice-aggregate-is-empty is-empty-requires give-next-requires (λ c. search needs) (λ c. search needs) returns-3 (λ c. search needs) (λ c. search needs) returns-4 (λ c. search needs) (λ c. search needs) (λ c. search needs) (λ c κs. search needs) (λ c κs. search needs) (λ c. search needs) returns-5 (λ c. search needs) (λ c. search needs) go-on-requires (λ c. search needs) returns-6 (λ c. search needs) (λ c. search needs) returns-7)

@@ -1,17 +1,20 @@
 -- `packing::told_number` meets its contract.
-use mathlib.Core.Path.{sym, ap, _∙_}
+use mathlib.Core.Path.{sym, ap, subst, _∙_}
 use Prim.Native.Nat.{ℕ, _+_}
 use native.Mathlib.Omega.{arith}
 use borrow.Author.Needs.{needs}
-use Rattle.packing.specs.Packing.{over, toldNumber}
+use Rattle.packing.specs.Packing.{over, toldNumber, FitsTold}
 use Rattle.packing.proofs.told_number.Statement.{statement}
 use Rattle.packing.proofs.told_number.Tie as tie
 
+packed-answer-requires : tie.Need-packed-answer-requires
+packed-answer-requires c κs = subst FitsTold (c .before .told .given .1) (c .before .before .before .pre)
+
 add-result : tie.Need-add-result
-add-result c = omega (arith, c .answer-number .ensures .1)
+add-result c = omega (arith, c .packed-answer .ensures .0 .rest)
 
 returns-2 : tie.Need-returns-2
-returns-2 c = ap (λ (n : ℕ). over + n) (c .answer-number .ensures .0) ∙ ap toldNumber (sym (c .before .before .told .given .1))
+returns-2 c = ap (λ (n : ℕ). over + n) (c .packed-answer .ensures .1) ∙ ap toldNumber (sym (c .before .before .told .given .1))
 
 pub told-number-spec : {M : Type 1} → statement M
-told-number-spec = tie.close (tie.spec (λ c. search needs) (λ c. search needs) (λ c κs. search needs) add-result (λ c. search needs) (λ c. search needs) returns-2 (λ c. search needs))
+told-number-spec = tie.close (tie.spec (λ c. search needs) (λ c. search needs) packed-answer-requires add-result (λ c. search needs) (λ c. search needs) returns-2 (λ c. search needs))
