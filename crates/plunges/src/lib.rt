@@ -173,7 +173,12 @@ fn deep_at(g: Groove, t: u32) -> i32
     let start = depth.start;
     let target = depth.target;
     let side = whole::side_of(start, target);
-    whole::step(start, side, t)
+    match side {
+        Side::Plus => whole::step(start, Side::Plus, t),
+        Side::Minus => whole::step(start, Side::Minus, t),
+        // the target is the start, and t is 0: a step to either side. So told, the loop over the cuts has two ways to go and not three, and costs less.
+        Side::Zero => whole::step(start, Side::Plus, t),
+    }
 }
 
 // What is left of t less `back`, and no less than 0.

@@ -1,6 +1,6 @@
 -- Laws of sides: going the distance to the right side arrives, and what lies on the way fits.
 -- Assumes nothing.
-use mathlib.Core.Path.{_≡_, refl, sym, subst}
+use mathlib.Core.Path.{_≡_, refl, sym, ap, _∙_, subst}
 use Prim.Native.Nat.{ℕ, zero, suc, _+_, _<_, _≤_}
 use native.Mathlib.Omega.{arith}
 use lib.IntN.{ℤ, pos, negsuc, negℤ, natAbs, _+ℤ_, _-ℤ_, +ℤ-idr}
@@ -58,6 +58,10 @@ pub along-zero : (a : ℤ) (s : Side) → a +ℤ along s 0 ≡ a
 along-zero a Minus = +ℤ-idr a
 along-zero a Zero = +ℤ-idr a
 along-zero a Plus = +ℤ-idr a
+
+-- where there is no side there is no way
+pub no-way : (z : ℤ) → sideOf z ≡ Zero → natAbs z ≡ 0
+no-way z e = ap natAbs (sym (along-side z) ∙ ap (λ (s : Side). along s (natAbs z)) e)
 
 -- and it fits where a and b do
 pub toward : {w : Width} {a b : ℤ} → SFits w a → SFits w b → (m : ℕ) → m ≤ natAbs (b -ℤ a) → SFits w (a +ℤ along (sideOf (b -ℤ a)) m)
