@@ -1,3 +1,3 @@
--- The laws of what a motion asks, and of what a number says.
+-- The laws of what a number says.
 pub mod Examples
 pub mod Saying

@@ -18,7 +18,7 @@ use Rattle.resuming.specs.Handed as left
 use Rattle.inhand.specs.State.{stateWords}
 use Rattle.packing.specs.declared.Told.{Told}
 use Rattle.packing.specs.declared.Told.the-variants as told
-use Rattle.packing.specs.Packing.{answerNumber, over, toldNumber}
+use Rattle.packing.specs.Packing.{answerNumber, over, toldNumber, Bounded}
 use Rattle.onemove.specs.OneMove.{StartsIn, NextMeets}
 use Rattle.board.specs.Door.{atDoor, firstAtDoor}
 
@@ -35,6 +35,7 @@ pub record StartAtDoor (tape : List ℕ) (table numbers : List ℤ) (places w : 
 pub record NextAtDoor (tape : List ℕ) (table numbers : List ℤ) (places w b : List ℕ) (r : ℕ) (v c : List ℕ) : Type 0 where
   pub told : Told
   pub is : r ≡ toldNumber told
+  pub bits : Bounded told
   pub meets : NextMeets tape table numbers places w b told v c
 
 -- ---- ASKED IN TURN, at the door: w k are the words that are lent to the k-th ask, from 0, b k the bytes, and c k what they are after it; r k is what it answers. (An ask answers whatever is lent to it, so
@@ -55,7 +56,7 @@ pub record OneMoveAtDoor (tape : List ℕ) (table numbers : List ℤ) (places : 
   pub started : r ≡ 0
   pub same : (k : ℕ) → Answers (left.handed (leftOf (atDoor tape table numbers (length places) roomy)) k) (b k) (told k) (c k)
   pub long : mostPlaces ≤ length places → (k : ℕ) → Answers (left.handed (leftOf (firstAtDoor tape table numbers roomy)) k) (b k) (told k) (c k)
-  -- as it is read (36): "3 and 22 cannot come"
+  -- as it is read (36): "3 and 22 cannot come": the answer that is told is neither
   pub no-three : (place count : ℕ) → atDoor tape table numbers (length places) roomy .answer ≡ Alarm bufferTooShort place count → ⊥
   pub no-twenty-two : mostPlaces ≤ length places → (place count : ℕ) → atDoor tape table numbers (length places) roomy .answer ≡ Alarm placesTooShort place count → ⊥
 

@@ -1,4 +1,4 @@
--- THE DOOR: tape, table, settings as a row of numbers (settings/specs/Row.antt), the table of places and the buffer; an answer as one number.
+-- THE DOOR: tape, table, settings as a row of numbers (panel/specs/Row.antt), the table of places and the buffer. (An answer as one number: packing/specs/Packing.antt.)
 use mathlib.Core.Path.{_≡_}
 use mathlib.Core.Bool.{true, false, cond}
 use mathlib.Core.List.{List, []}

@@ -59,7 +59,7 @@ pub extern "C" fn tm02_start(
 }
 
 // The next record of a run that was started in the words, laid in 20 bytes at the front of the lent ones, or its answer, which is repeated from then on. Bits 0 to 39 are the answer as `tm02_interpret`
-// gives it; bit 40 is set where there is one, and bit 41 where nothing was done: the words are no state, or the bytes have no room for a record. All else is lent as it was at the start, and as the
+// gives it; bit 40 is set where there is one, and bit 41 where nothing was done: the words cannot be asked with what is lent, or the bytes have no room for a record. All else is lent as it was at the start, and as the
 // start left it.
 #[no_mangle]
 pub extern "C" fn tm02_next(

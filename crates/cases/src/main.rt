@@ -1,7 +1,7 @@
 // Stored tapes with the listings that they must give, run through the board's door and compared: those of 01, of its readings and of manual 001, those of threads (02, request 1), of missing points
 // (request 3), of drilling (request 9), of arcs (request 4) and of the blocks that moves came from (request 7), those of the alarm card, and the examples.
 // A line for each: its name and `agrees`, or `DIFFERS at line N` of the listing. Where the listing agrees, its tape is also run one move at a time (request 12), and N is the line of the move, or 1 of the
-// answer, that is another than the list's.
+// answer, that is another than the list's, or 1 where words that cannot be asked are not refused.
 // The file `stdin` holds the first: a name, LF, lines of settings, the tape, byte 29, the listing, and byte 30; data/threads.cases, data/threads-refused.cases,
 // data/points.cases, data/drilling.cases, data/arcs.cases and data/blocks.cases hold the next in the same way. data/ALARMS.md is the card. Each line of the file `args` names an example:
 // data/examples has its tape, its listing, and its settings where they are other ones than those of `listmoves`. How each is written down the crate `stored` knows.

@@ -1,5 +1,5 @@
 // A tape run one move at a time (02, request 12), and each answer compared with the list of the same run: record k with the list's record k, then the end or the alarm, which is repeated. The list
-// engine is lent a buffer that has room for every list, and both the table of places that the case asks for. Before that, words that no start made are asked, and refused.
+// engine is lent a buffer that has room for every list, and both the table of places that the case asks for. Before that, words that cannot be asked are asked, and refused.
 use stored::compare::Verdict;
 ghost use Prim.Native.Nat.{_≤_};
 ghost use Rattle.stored.specs.Texts.{FromOne};
@@ -7,8 +7,10 @@ ghost use Rattle.stored.specs.Texts.{FromOne};
 // The buffer that has room for every list.
 const LIST: usize = moves::HEADER_SIZE + moves::RECORD_SIZE * moves::RECORD_LIMIT;
 
-// What the words of a state hold before: any number does.
+// What the words of a state and the table of places hold before: any number does.
 const UNUSED_WORD: u32 = 1;
+
+const UNUSED_PLACE: u64 = 1;
 
 // A count of records that no answer has: it takes 17 bits.
 const TOO_MANY: u32 = 65_536;
@@ -119,6 +121,15 @@ fn is_started(
     board::tm02_start(tape, table, settings, places, state) == 0
 }
 
+// Takes what an earlier run has left out of the table of places: a start has to fill it.
+fn clear(places: &mut [u64]) {
+    let mut i = 0;
+    while i < places.len() {
+        places[i] = UNUSED_PLACE;
+        i += 1;
+    }
+}
+
 // Starts a run in the words, whatever they hold, and asks until it is over. A wrong answer differs at the line that the listing has for it.
 fn judge_asks(
     tape: &[u8],
@@ -131,6 +142,7 @@ fn judge_asks(
 ) -> Verdict
     ensures { λ r. ⌜ FromOne r ⌝ }
 {
+    clear(places);
     if !is_started(tape, table, settings, places, state) {
         return Verdict::Differs(ANSWER_LINE);
     }
@@ -176,7 +188,8 @@ fn is_refused(
     board::tm02_next(tape, table, settings, places, state, record) == packing::TOLD_REFUSED
 }
 
-// Whether words that no start made are refused: cleared ones, one too few, and an answer with a count that no answer has; and bytes that lack one for a record. No start is made in one word too few.
+// Whether words that cannot be asked are refused: cleared ones, one too few, and an answer with a count that no answer has; and bytes that lack one for a record. Words that say the end of a run of no
+// records are told so, whoever made them. No start is made in one word too few.
 fn refuses_words(tape: &[u8], table: &[i32], settings: &[i32], places: &mut [u64]) -> bool {
     let mut record = [0u8; moves::RECORD_SIZE];
     let mut short = [0u8; moves::RECORD_SIZE - 1];
@@ -184,12 +197,13 @@ fn refuses_words(tape: &[u8], table: &[i32], settings: &[i32], places: &mut [u64
     let mut few = [0u32; inhand::STATE_WORDS - 1];
     let mut over = [0u32; inhand::STATE_WORDS];
     over[inhand::GOING + runwords::PHASE] = runwords::COMPLETE;
+    few[inhand::GOING + runwords::PHASE] = runwords::COMPLETE;
     let ended = board::tm02_next(tape, table, settings, places, &mut over, &mut record);
+    let narrow = is_refused(tape, table, settings, places, &mut over, &mut short);
     over[inhand::GOING + runwords::COUNT] = TOO_MANY;
     let none = is_refused(tape, table, settings, places, &mut cleared, &mut record);
     let fewer = is_refused(tape, table, settings, places, &mut few, &mut record);
     let more = is_refused(tape, table, settings, places, &mut over, &mut record);
-    let narrow = is_refused(tape, table, settings, places, &mut over, &mut short);
     let started = is_started(tape, table, settings, places, &mut few);
     (ended == packing::TOLD_OVER) & none & fewer & more & narrow & !started
 }

@@ -1,5 +1,5 @@
 // The cycles as one family. Whoever runs a block asks a cycle what is asked here, and never which cycle it is.
-// A new cycle is a crate of its own, a row in the table of `codes` and in that of `acts`, the function of `scaling` that gives it its numbers and its clause in `deeds`, and one arm in each function below and in the block's cursor (`stages`, `opening`, `handing`).
+// A new cycle is crates of its own, a row in the table of `codes` and in that of `stands`, a clause of `keep` of `acts`, the function of `scaling` that gives it its numbers and its clause in `deeds`, and one arm in each function below and in the block's cursor (`stages`, `opening`, `handing`).
 use drilling::Bore;
 use grooving::Groove;
 use settings::Limits;

@@ -22,7 +22,7 @@ pub record Given (w b v c : List ℕ) : Type 0 where
   pub run : runIn v ≡ runIn w
   pub long : length v ≡ stateWords
 
--- of words with a block in hand: a record is given where it can be asked for one, and nowhere else; where none is given nothing is done
+-- of words with a block in hand: a record is given where that block is sound and has a record left, and nowhere else; where none is given nothing is done
 pub record GiveMeets (w b : List ℕ) (r : Bool) (v c : List ℕ) : Type 0 where
   pub gives : r ≡ true → Given w b v c
   pub refuses : r ≡ false → (v ≡ w) × (c ≡ b)

@@ -49,7 +49,7 @@ fn give_any(state: &mut [u32], record: &mut [u8]) -> bool
     true
 }
 
-// Lays the next record of the present block at the front of the lent bytes. Where the words hold no block that has one, nothing is done, and the answer is no.
+// Lays the next record of the present block at the front of the lent bytes. Where the words hold no sound block that has one, nothing is done, and the answer is no.
 // A cycle that is due has its own path, since it has the most records.
 pub fn give_next(state: &mut [u32], record: &mut [u8]) -> bool
     requires { ⌜ (length (now state) ≡ stateWords) × (isEmptyIn (now state) ≡ false) × (recordSize ≤ length (now «record»)) ⌝ }

@@ -201,29 +201,53 @@ answerIn told.Move d = d
 answerIn (told.Over a) d = a
 answerIn told.Refused d = d
 
+-- ---- what a run has come to
+abbrev runs : Phase → ℕ
+runs Running = 0
+runs (Over a) = 1
+
+abbrev answerOf : Phase → Answer → Answer
+answerOf Running d = d
+answerOf (Over a) d = a
+
 -- ---- what is in hand
 some-held : (tape : List ℕ) (table numbers : List ℤ) (places : List ℕ) (h : Hand) (g : Going) → CanAsk tape table numbers places h g → Held h
 some-held tape table numbers places Nothing g k = record { sound = tt; some = tt }
 some-held tape table numbers places (Block c o) g k = k
 
--- what has a record is a block
+-- a block can be asked
+block-asks : (tape : List ℕ) (table numbers : List ℤ) (places : List ℕ) (h : Hand) (g : Going) → (h ≡ Nothing → ⊥) → Held h → CanAsk tape table numbers places h g
+block-asks tape table numbers places Nothing g n k = absurd (n refl)
+block-asks tape table numbers places (Block c o) g n k = k
+
+-- and so can what has a record, which is a block
 held-asks : (tape : List ℕ) (table numbers : List ℤ) (places : List ℕ) (h : Hand) (g : Going) {l : Listed} {ls : List Made} → inHand h ≡ l ∷ ls → Held h → CanAsk tape table numbers places h g
 held-asks tape table numbers places Nothing g e k = absurd (omega (arith, ap length (sym none-in-hand ∙ e)))
 held-asks tape table numbers places (Block c o) g e k = k
+
+over-asks : (tape : List ℕ) (table numbers : List ℤ) (places w : List ℕ) → handIn w ≡ Nothing → (a : Answer) → runIn w .phase ≡ Over a → Fitting a → CanAsk tape table numbers places (handIn w) (runIn w)
+over-asks tape table numbers places w none a over fit =
+    subst (λ (h : Hand). CanAsk tape table numbers places h (runIn w)) (sym none) (subst (λ (p : Phase). CanTell p tape table numbers places (runIn w)) (sym over) fit)
 
 -- ---- what an ask comes to
 module _ (tape : List ℕ) (table numbers : List ℤ) (places : List ℕ) where
   abbrev Meets : List ℕ → List ℕ → Told → List ℕ → List ℕ → Type 0
   Meets w b r v c = AskMeets tape table numbers places w b r v c
 
-  -- words that no start made are refused
+  -- words that hold nothing and cannot be asked are refused
   pub refused-ask : (w b v c : List ℕ) → v ≡ w → c ≡ b → ((x : Left) → Holds tape table numbers places w x → ⊥)
       → (length w ≡ stateWords → CanAsk tape table numbers places (handIn w) (runIn w) → ⊥) → Meets w b told.Refused v c
   refused-ask w b v c e f made cannot =
       record {
         lawful = λ x m. absurd (made x m);
         refused = λ _. e;
-        exactly = λ l. record { able = λ k _. cannot l k; unable = λ _. refl };
+        exactly = λ l.
+            record {
+              able = λ k _. cannot l k;
+              unable = λ _. refl;
+              again = λ a none over fit. absurd (cannot l (over-asks tape table numbers places w none a over fit));
+              given = λ n h. absurd (cannot l (block-asks tape table numbers places (handIn w) (runIn w) n h));
+            };
         touches = f;
         long = ap length e;
         fits = λ a z. absurd (omega (arith, ap kindOf z));
@@ -277,7 +301,13 @@ module _ (tape : List ℕ) (table numbers : List ℤ) (places : List ℕ) where
               (subst (λ (h : Hand). Stood tape table numbers places h g x) none (subst (λ (y : Going). Stood tape table numbers places (handIn w) y x) (sym is) (k .stood)))
               (ap (λ (y : Going). y .phase) is ∙ on) t (subst (λ (y : Settings). TurnMeets (take (g .end) tape) table y places g t) sets m) b r v c f;
           refused = not-refused t r v c f;
-          exactly = λ _. record { able = λ k z. subst (λ (y : Told). Gives y (t .hand) (t .going .phase) b v c) z (f .gives); unable = λ n. absurd (n (asks can)) };
+          exactly = λ _.
+              record {
+                able = λ k z. subst (λ (y : Told). Gives y (t .hand) (t .going .phase) b v c) z (f .gives);
+                unable = λ n. absurd (n (asks can));
+                again = λ a _ over _. absurd (omega (arith, ap runs (sym over ∙ on)));
+                given = λ n _. absurd (n none);
+              };
           touches = touched t r v c f;
           long = f .long ∙ sym long;
           fits = λ a z. subst Answers (subst (λ (y : Told). Gives y (t .hand) (t .going .phase) b v c) z (f .gives) .1) (m .kept .answer);
@@ -294,6 +324,8 @@ module _ (tape : List ℕ) (table numbers : List ℤ) (places : List ℕ) where
             record {
               able = λ _ z. absurd (omega (arith, ap kindOf z));
               unable = λ n. absurd (n (held-asks tape table numbers places (handIn w) (runIn w) (k .first) (g .held e)));
+              again = λ a none _ _. absurd (omega (arith, ap length (sym none-in-hand ∙ ap inHand (sym none) ∙ k .first)));
+              given = λ _ _. (refl, k);
             };
         touches = record { listed = k .listed; is = k .bytes };
         long = k .long ∙ sym long;
@@ -308,15 +340,18 @@ module _ (tape : List ℕ) (table numbers : List ℤ) (places : List ℕ) where
 
   -- ---- the answer again
   module _ (w b : List ℕ) (none : handIn w ≡ Nothing) where
-    over-asks : (a : Answer) → runIn w .phase ≡ Over a → Fitting a → CanAsk tape table numbers places (handIn w) (runIn w)
-    over-asks a over fit = subst (λ (h : Hand). CanAsk tape table numbers places h (runIn w)) (sym none) (subst (λ (p : Phase). CanTell p tape table numbers places (runIn w)) (sym over) fit)
-
     pub over-ask : (a : Answer) → runIn w .phase ≡ Over a → Fitting a → Meets w b (told.Over a) w b
     over-ask a over fit =
         record {
           lawful = λ x m. over-lawful tape table numbers places w x m none a over b;
           refused = λ z. refl;
-          exactly = λ _. record { able = λ _ z. absurd (omega (arith, ap kindOf z)); unable = λ n. absurd (n (over-asks a over fit)) };
+          exactly = λ _.
+              record {
+                able = λ _ z. absurd (omega (arith, ap kindOf z));
+                unable = λ n. absurd (n (over-asks tape table numbers places w none a over fit));
+                again = λ d _ too _. (ap told.Over (ap (λ (p : Phase). answerOf p a) (sym over ∙ too)), refl);
+                given = λ n _. absurd (n none);
+              };
           touches = refl;
           long = refl;
           fits = λ d z. subst Fitting (ap (λ (y : Told). answerIn y a) z) fit;

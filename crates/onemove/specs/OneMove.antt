@@ -31,7 +31,7 @@ use Rattle.returning.specs.Standing.{leftFor, taskFor, PlacedOn}
 use Rattle.holding.specs.Held.{Held}
 use Rattle.stepping.specs.declared.Turned.{Turned}
 use Rattle.starting.specs.Starts.{Ready}
-use Rattle.inhand.specs.State.{stateWords, handIn, runIn}
+use Rattle.inhand.specs.State.{stateWords, handIn, runIn, Given}
 use Rattle.packing.specs.declared.Told.{Told}
 use Rattle.packing.specs.declared.Told.the-variants as told
 
@@ -98,8 +98,9 @@ Touches told.Move b c = Laid b c
 Touches (told.Over a) b c = c ≡ b
 Touches told.Refused b c = c ≡ b
 
--- ---- WORDS THAT CAN BE ASKED, with what is lent: a block in hand that has a record left; where nothing is in hand, an answer whose place and count have 16 bits, or a run that can go on: its numbers are within
--- their bounds, something of a tape was read, the tape and the table of places are as long as it needs them, and settings and table are not alarm 1
+-- ---- WORDS THAT CAN BE ASKED, with what is lent: a block in hand that is sound and has a record left, whatever the run behind it is; where nothing is in hand, an answer whose place and count have 16 bits, whatever
+-- else the words hold, or, with settings and table that are not alarm 1, a run that can go on: its numbers are within their bounds, its state is one that a block can run on, something of a tape was read, and the tape
+-- and the table of places are as long as it needs them
 pub record CanGoOn (tape places : ℕ) (g : Going) : Type 0 where
   pub kept : Kept g
   pub state : Sound (g .run .state)
@@ -115,17 +116,20 @@ abbrev pub CanAsk : List ℕ → List ℤ → List ℤ → List ℕ → Hand →
 CanAsk tape table numbers places (Block c o) g = Held (Block c o)
 CanAsk tape table numbers places Nothing g = CanTell (g .phase) tape table numbers places g
 
--- of a state's count of words: those that can be asked are not refused, and all others are
-pub record Exactly (tape : List ℕ) (table numbers : List ℤ) (places w : List ℕ) (r : Told) : Type 0 where
+-- of a state's count of words, with the words w and the bytes b before, v and c after it: those that can be asked are not refused, and all others are; an answer in the words is told again, and of a block in hand
+-- the next record is given
+pub record Exactly (tape : List ℕ) (table numbers : List ℤ) (places w b : List ℕ) (r : Told) (v c : List ℕ) : Type 0 where
   pub able : CanAsk tape table numbers places (handIn w) (runIn w) → r ≡ told.Refused → ⊥
   pub unable : (CanAsk tape table numbers places (handIn w) (runIn w) → ⊥) → r ≡ told.Refused
+  pub again : (a : Answer) → handIn w ≡ Nothing → runIn w .phase ≡ Over a → Fitting a → (r ≡ told.Over a) × (v ≡ w)
+  pub given : (handIn w ≡ Nothing → ⊥) → Held (handIn w) → (r ≡ told.Move) × Given w b v c
 
--- with the words w and the bytes b before, v and c after it. Of words that hold nothing this is said: they are refused where they cannot be asked; as many there are as before, where they are refused all is as
+-- with the words w and the bytes b before, v and c after it. Of words that hold nothing this is said: they are refused where they cannot be asked, and nowhere else; as many there are as before, where they are refused all is as
 -- it came, and only a record touches the bytes; an answer that is told has 16 bits for its place and its count
 pub record AskMeets (tape : List ℕ) (table numbers : List ℤ) (places w b : List ℕ) (r : Told) (v c : List ℕ) : Type 0 where
   pub lawful : (x : Left) → Holds tape table numbers places w x → Lawful tape table numbers places x b r v c
   pub refused : r ≡ told.Refused → v ≡ w
-  pub exactly : length w ≡ stateWords → Exactly tape table numbers places w r
+  pub exactly : length w ≡ stateWords → Exactly tape table numbers places w b r v c
   pub touches : Touches r b c
   pub long : length v ≡ length w
   pub fits : (a : Answer) → r ≡ told.Over a → Fitting a

@@ -1,7 +1,7 @@
 // ONE MOVE AT A TIME, with the engine's state in words that the caller lends: a run is started in them, and asked for its next record or its answer. (02, request 12: "hands out the next record or
 // the alarm when asked"; "After an alarm or the end it repeats that answer; a new start clears it.")
 // While a block has records, an ask hands out the next of them (`inhand`); else blocks are done, until one has a record or the run is over (`stepping`). Words from elsewhere are tested before
-// they are used: what no start made is refused, or is such that a start might have made it.
+// they are used: those that cannot be asked (`CanAsk`) are refused, all others are answered, whoever made them.
 use answers::Answer;
 use moves::Origin;
 use packing::Told;
@@ -69,7 +69,7 @@ fn give_first(state: &mut [u32], turned: Turned, record: &mut [u8]) -> Told
     }
 }
 
-// Whether a run from elsewhere can go on: its numbers are within their bounds, something of a tape was read (cleared words are no state), and what it was read from and looks in is lent.
+// Whether a run from elsewhere can go on: its numbers are within their bounds, its state is one that a block can run on, something of a tape was read (cleared words are no state), and tape and table of places are as long as it needs them.
 fn can_go_on(g: Going, tape: usize, places: usize) -> bool
     ensures sound { λ r. ⌜ (r ≡ true → CanGoOn tape places g) ⌝ }
     ensures all { λ r. ⌜ (CanGoOn tape places g → r ≡ true) ⌝ }

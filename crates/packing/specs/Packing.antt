@@ -19,7 +19,7 @@ pub record Fits (a : Answer) : Type 0 where
   pub place : placeOf a < 65_536
   pub count : countOf a < 65_536
 
--- the number itself
+-- the number itself, of an answer that fits
 abbrev pub answerNumber : Answer → ℕ
 answerNumber a = countOf a + sixteenBits * (placeOf a + sixteenBits * numberOf a)
 
@@ -35,8 +35,14 @@ toldNumber told.Move = 0
 toldNumber (told.Over a) = over + answerNumber a
 toldNumber told.Refused = refused
 
--- of an ask that tells an answer
+-- the same of what an ask tells: an answer that is told has 16 bits for its place and its count
 abbrev pub FitsTold : Told → Type 0
 FitsTold told.Move = Unit {0}
 FitsTold (told.Over a) = Fits a
 FitsTold told.Refused = Unit {0}
+
+-- an answer that is told sets no bit above 40: its alarm has 8 bits, and it is not taken for a refusal
+abbrev pub Bounded : Told → Type 0
+Bounded told.Move = Unit {0}
+Bounded (told.Over a) = answerNumber a < over
+Bounded told.Refused = Unit {0}

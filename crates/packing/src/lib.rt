@@ -2,9 +2,9 @@
 use answers::Answer;
 ghost use mathlib.Core.Path.{_≡_};
 ghost use Prim.Native.Nat.{_+_, _*_, _<_};
-ghost use Rattle.packing.specs.Packing.{Fits, Packed, answerNumber, toldNumber, FitsTold};
+ghost use Rattle.packing.specs.Packing.{Fits, Packed, answerNumber, toldNumber, FitsTold, Bounded};
 
-// What an ask comes to: a record, which is laid at the front of the lent bytes; the answer of the run; or words that are no state, or bytes that have no room for a record.
+// What an ask comes to: a record, which is laid at the front of the lent bytes; the answer of the run; or that nothing was done: words that cannot be asked with what is lent, or bytes that have no room for a record.
 pub enum Told {
     Move,
     Over(Answer),
@@ -38,7 +38,8 @@ pub const TOLD_REFUSED: u64 = 2_199_023_255_552;
 
 pub fn told_number(told: Told) -> u64
     requires { ⌜ FitsTold told ⌝ }
-    ensures { λ r. ⌜ r ≡ toldNumber told ⌝ }
+    ensures number { λ r. ⌜ r ≡ toldNumber told ⌝ }
+    ensures bits { λ _. ⌜ Bounded told ⌝ }
 {
     match told {
         Told::Move => 0,

@@ -1,5 +1,5 @@
 -- The settings as a row of numbers: main, lowest subroutine, retract, start X, start Z, X lowest, X highest, Z lowest, Z highest, empty cuts, points (0 or 1). Settings that are not as many, or of which
--- one is out of its range, are alarm 1, whatever the rest is. Which ranges there are is said once, in Wrong.antt; here is only what the settings cannot hold: a number below 0 for main, lowest
+-- one is out of its range, are alarm 1, whatever the rest is. Which ranges there are is said once, in settings/specs/Wrong.antt; here is only what the settings cannot hold: a number below 0 for main, lowest
 -- subroutine, retract or the empty cuts, and one for the points that is neither 0 nor 1.
 use mathlib.Core.Bool.{Bool, not, _||_}
 use mathlib.Core.List.{List}

@@ -35,7 +35,7 @@ pub const POINTS: usize = 10;
 // How many settings there are.
 pub const COUNT: usize = 11;
 
-// Whether they are not as many, or main, lowest subroutine, retract or the empty cuts are below 0, or the points neither 0 nor 1. What else alarm 1 asks of them is judged of the settings (`control::settings_wrong`).
+// Whether they are not as many, or main, lowest subroutine, retract or the empty cuts are below 0, or the points neither 0 nor 1. What else alarm 1 asks of them is judged of the settings (`settings::settings_wrong`).
 pub fn unfit(numbers: &[i32]) -> bool
     ensures { λ r. ⌜ r ≡ unfit (now (numbers .entry)) ⌝ }
 {

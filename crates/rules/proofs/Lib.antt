@@ -1,2 +1,2 @@
--- The laws of the word rules and of a judged line.
+-- The laws of the word rules.
 pub mod Ruling

@@ -10,7 +10,7 @@ ghost use lib.ListN.{length, getD};
 ghost use Rattle.ahead.specs.Ahead.{mostCalls};
 ghost use Rattle.paused.specs.Kept.{nobody, Waits, Answers, Kept};
 
-// Whether each program that may wait has its line and the place to go on before the end of the tape.
+// Whether each program that may wait has its line and the place to go on no further than the end of the tape.
 fn wait_within(waiting: [Waiting; runwords::MOST_WAITING], end: usize) -> bool
     ensures sound { λ r. ⌜ (r ≡ true → (length waiting ≡ mostCalls) × ((k : ℕ) → k < mostCalls → Waits end (getD waiting k nobody))) ⌝ }
     ensures all { λ r. ⌜ ((length waiting ≡ mostCalls) × ((k : ℕ) → k < mostCalls → Waits end (getD waiting k nobody)) → r ≡ true) ⌝ }

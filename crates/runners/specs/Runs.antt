@@ -1,5 +1,5 @@
 -- THE MEANING OF A RUN IS ITS STEPS. 01: "Running a program runs its blocks, and a call block runs a program again. At most ten calls deep. M17 returns." "repeats 0 means once". "A run begins at
--- most 20,000 blocks, repeats and calls counted." What the buffer holds is laid from the same steps (Answers.antt), so that nothing is said of a run beside what it wrote.
+-- most 20,000 blocks, repeats and calls counted." What the buffer holds is laid from the same steps (Answers.antt of `interpreter`), so that nothing is said of a run beside what it wrote.
 use mathlib.Core.List.{List, [], _∷_, _++_}
 use Prim.Native.Nat.{ℕ, zero, suc}
 use Rattle.alarms.specs.Numbers.{tooDeep, tooManyBegun}

@@ -1,5 +1,5 @@
--- What is known of the machine where a block runs, and of what a target is asked with. Nothing here says what a block does: it is what the code of this crate may rely on, and what its
--- callers show.
+-- What is known of the machine where a block runs, and of what a target is asked with. Nothing here says what a block does: it is what the code of `targets` and of the
+-- crates built on it may rely on, and what their callers show; `Sound` is also what a state from elsewhere is asked for (`stateable`).
 use mathlib.Core.Path.{_≡_}
 use mathlib.Core.Bool.{true}
 use Prim.Native.Nat.{ℕ, _≤_}

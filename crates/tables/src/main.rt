@@ -1,5 +1,6 @@
 // Stored tapes run through the board's door with lent tables of places of several lengths (02, request 8). For each: its name and its listing, and then every entry of the table behind it, as
-// program/slot/place, or `=` where the entry is as it came. Each is also run one move at a time (request 12), and a line says so where a move or the answer is another than the list's.
+// program/slot/place, or `=` where the entry is as it came. Each is also run one move at a time (request 12), and a line says so where a move or the answer is another than the list's, or where words that cannot be asked
+// are not refused.
 // The file `stdin` holds them: a name, LF, lines of settings (`=held 3` lends a table of three entries), the tape, and byte 30. `stdout` holds what 01 and 02 say of each.
 use answers::Answer;
 use libc::STDIN_FILENO;

@@ -1,4 +1,4 @@
-// Whether a turning cycle that is opened can go on. Every cursor that `turning` made can; one that comes back from a caller who kept it may have been changed,
+// Whether a turning cycle that is opened can go on. Every cursor that `passes` made can; one that comes back from a caller who kept it may have been changed,
 // and is asked here before its next record is.
 use passes::Cursor;
 ghost use mathlib.Core.Path.{_≡_};
