@@ -165,13 +165,13 @@ uint32_t tm02_start(const uint8_t *tape, size_t tape_len, const int32_t *table, 
    came, and all of them where the answer is not a record. An arc is two records: the next ask gives its centre.
 
    Lend each ask the same tape, table, settings and places as the start, places as the start left them, and let nothing else write to the state between two asks. An ask is refused, and then state
-   and record are as they came, where state_len is not TM02_STATE_WORDS, where record_len is below TM02_RECORD_SIZE, and where the words are none that a run can go on from with what is lent. Words
-   that no start made break nothing: they are refused, or answered as the state that they happen to be.
+   and record are as they came, where state_len is not TM02_STATE_WORDS, where record_len is below TM02_RECORD_SIZE, and where the words cannot be asked: a block in hand that is not sound or has
+   no record left; and where none is in hand, a run that cannot go on with what is lent, or one that is over and whose place or count has more than 16 bits. Words that no start made break nothing: they are refused, or answered as the state that they happen to be.
 
    The caller owes what C cannot check, as above: no pointer is null, each points to as many elements as its length says and is aligned as its type, state and record overlap none of the
    others, and nothing else writes to any of them, or reads state or record, during the call.
 
-   Neither call takes heap or has data of its own. tm02_start took 2,040 bytes of stack and tm02_next 4,904, however deep the calls of the tape are, measured with the archive of this version: give
+   Neither call takes heap or has data of its own. tm02_start took 2,040 bytes of stack and tm02_next 4,920, however deep the calls of the tape are, measured with the archive of this version: give
    them 16 KiB, and the 128 bytes below.
    A start reads the whole tape, and an ask runs blocks until one has a record, which may be all the 20,000 of a run: do not call them from an interrupt. */
 uint64_t tm02_next(const uint8_t *tape, size_t tape_len, const int32_t *table, size_t table_len,
