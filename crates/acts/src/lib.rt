@@ -1,12 +1,14 @@
 // What a number says of one thing, else what was before: the motion and what is kept of it, a shift, how S and F count; and whether an M number ends the run or returns. (01: "what a G or M asks or forbids holds only where that word applies";
 // "0 is 00 01 33 (kept) and 04 84 86 (that block only; the kept one stays)", with which G85, G87 and G88 go; 02: "G02 and G03 are kept"; "G54 and G55 call shifts 1 and 2, ..; G53 and G56 cancel".)
+#![tactic(auto)]
+
 ghost use Rattle.std.specs.Prelude.{◌≡◌};
 ghost use Rattle.acts.specs.Acting.{keep, motion_by, shift_by, cutting_by, revolution_by, ends_by, returns_by};
 
 use codes::{Code, Flow, Meaning, Motion};
 
 // A motion function, or none.
-#[derive(Drop)]
+#[derive(Clone, Copy)]
 pub enum Kept {
     Nothing,
     Of(Motion),

@@ -1,5 +1,7 @@
 // The words of a line, one after the other: an address, for P and D an index digit and `=`, and a number part.
 // A word's number part runs to the next letter, `%`, space, `(` or the line's end, and goes to the one number reader.
+#![tactic(auto)]
+
 ghost use Rattle.std.specs.Prelude.{◌≡◌, ◌≤◌, ◌<◌, length};
 ghost use Rattle.tape.specs.Lines.{seek_from};
 ghost use Rattle.addresses.specs.Words.{capital, ends_number, form_of, number_word, index_of, IndexIn, word_at, next_word, lacks_point, NextIn};
@@ -8,7 +10,7 @@ use numbers::{Number, NumberForm};
 use tape::line::Gap;
 
 // A word as it is written: its address as a capital, its index (0 but for P and D), its number, and whether that had a point.
-#[derive(Drop)]
+#[derive(Clone, Copy)]
 pub struct Word {
     pub address: u8,
     pub index: u8,
@@ -18,7 +20,7 @@ pub struct Word {
 
 // The next word and the place behind it, or the line's end, or a fault, which is alarm 5. `%` and `O` are words here: that they stand
 // behind no other word is seen where a line's words are put together.
-#[derive(Drop)]
+#[derive(Clone, Copy)]
 pub enum NextWord {
     Word(Word, usize),
     End,
@@ -26,14 +28,14 @@ pub enum NextWord {
 }
 
 // The form of number that an address takes.
-#[derive(Drop)]
+#[derive(Clone, Copy)]
 pub enum Address {
     Known(NumberForm),
     Unknown,
 }
 
 // The index of a word and the place of its number, or that they are not written as they must be.
-#[derive(Drop)]
+#[derive(Clone, Copy)]
 pub enum Index {
     At(u8, usize),
     Bad,

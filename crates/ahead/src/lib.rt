@@ -1,4 +1,6 @@
 // What lies ahead of a block: the places that a call or a jump asks for.
+#![tactic(auto)]
+
 ghost use Rattle.std.specs.Prelude.{◌≡◌, ◌≤◌, length, take};
 ghost use Rattle.places.specs.Places.{Row};
 ghost use Rattle.ahead.specs.Ahead.{called_at, jumped_to, looked_up_in, LooksUp};
@@ -11,14 +13,14 @@ use settings::Settings;
 pub const MOST_CALLS: u32 = 10;
 
 // A program of the tape: its number, and the place of its line.
-#[derive(Drop)]
+#[derive(Clone, Copy)]
 pub struct ProgramAt {
     pub number: u32,
     pub line: usize,
 }
 
 // Where a run is: in a program, with so many calls left, at a place of the tape.
-#[derive(Drop)]
+#[derive(Clone, Copy)]
 pub struct Frame {
     pub program: ProgramAt,
     pub calls_left: u32,
@@ -27,7 +29,7 @@ pub struct Frame {
 
 // Where the run goes on after a block, with the places on the tape: the program that is called and how often it runs, the line of the block that is jumped to; or an alarm with its
 // place.
-#[derive(Drop)]
+#[derive(Clone, Copy)]
 pub enum Onward {
     On,
     Call(ProgramAt, u32),

@@ -1,5 +1,7 @@
 // The alarms' numbers, once. (01: "Alarms and their order". 02 takes 8 out, and "its number is not used again".) Every crate names an alarm by these names,
 // and every definition by those of specs/Numbers.antt.
+#![tactic(auto)]
+
 pub const BAD_SETTINGS: u8 = 1;
 
 pub const TAPE_TOO_LONG: u8 = 2;

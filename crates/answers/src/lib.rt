@@ -1,5 +1,7 @@
 // What the interpreter answers: a complete list, or an alarm with its number and place; and where a run begins and ends.
 // (01: "An alarm answers with number, place and records written"; "The header is written only when the run succeeds".)
+#![tactic(auto)]
+
 ghost use Rattle.std.specs.Prelude.{◌≡◌, ◌≤◌, length};
 ghost use Rattle.moves.specs.Form.{header_size, record_limit};
 ghost use Rattle.answers.specs.Answers.{answer_by, start_of, headed};
@@ -8,7 +10,7 @@ use runners::Ending;
 use settings::Settings;
 use taking::Run;
 
-#[derive(Drop)]
+#[derive(Clone, Copy)]
 pub enum Answer {
     // the list is complete: how many records it has
     Complete(usize),

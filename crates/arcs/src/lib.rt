@@ -1,5 +1,7 @@
 // The arcs G02 and G03: the arc that a block gives, its records, and whether the distances of start and end from the centre are near enough (alarm 19). How far an arc goes stands in
 // `sweeps`, and whether it keeps to the limits (18) in `straying`.
+#![tactic(auto)]
+
 ghost use Rattle.std.specs.Prelude.{◌≡◌, true, pos, ◌+ℤ◌, ◌*ℤ◌};
 ghost use Rattle.whole.specs.Position.{in_table};
 ghost use Rattle.arcs.specs.Arcs.{arc_of, end_record, centre_record, uneven};
@@ -9,7 +11,7 @@ use arrows::Spot;
 use moves::Record;
 
 // From where the axes stand to its end, around its centre.
-#[derive(Drop)]
+#[derive(Clone, Copy)]
 pub struct Arc {
     pub clockwise: bool,
     pub start: Spot,
@@ -18,7 +20,7 @@ pub struct Arc {
 }
 
 // I and K of a block, 0 where it has none.
-#[derive(Drop)]
+#[derive(Clone, Copy)]
 pub struct CentreWords {
     pub i: i32,
     pub k: i32,

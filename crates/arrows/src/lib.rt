@@ -1,4 +1,6 @@
 // Arrows from the centre of an arc, seen with Z to the right and X up, in half micrometres, so that the sizes of their products fit 64 bits: how long they are, and how one lies ahead of another. root.rt compares roots by their squares.
+#![tactic(auto)]
+
 pub mod root;
 
 ghost use Rattle.std.specs.Prelude.{◌≡◌, ◌*◌, ◌≤◌, pos, nat_abs, ◌-ℤ◌, ◌*ℤ◌};
@@ -6,13 +8,13 @@ ghost use Rattle.arrows.specs.Arrows.{arrow, square, cross, dot, ahead};
 ghost use Rattle.arrows.specs.Known.{greatest_part, Sized};
 
 // A place of both axes, in machine positions: X is a diameter.
-#[derive(Drop)]
+#[derive(Clone, Copy)]
 pub struct Spot {
     pub x: i32,
     pub z: i32,
 }
 
-#[derive(Drop)]
+#[derive(Clone, Copy)]
 pub struct Arrow {
     pub right: i64,
     pub up: i64,

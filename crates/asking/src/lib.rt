@@ -1,5 +1,7 @@
 // The alarms of a deed, in the paper's order: 15, 16, 17, 19, 18, 20. (01: "then blocks as run: .. 15, 16, 17, 19, 18, 20".)
 // Nothing is written and no cycle is opened to judge it.
+#![tactic(auto)]
+
 ghost use Rattle.std.specs.Prelude.{◌≡◌, ◌<◌};
 ghost use Rattle.cycles.specs.Cycle as cycle;{
 ghost use Rattle.cycles.specs.Known as known;{
@@ -13,7 +15,7 @@ use settings::Limits;
 
 // What the alarms ask of a deed: whether it has a path word with no motion (15), whether it is a traverse and no G00 (16), the least F that it takes, 0 where none is asked for (17),
 // whether its lengths are wrong (19), whether a move of it ends, or an arc strays, outside the limits (18), how many records it has (20).
-#[derive(Drop)]
+#[derive(Clone, Copy)]
 pub struct Asks {
     pub nowhere: bool,
     pub waits: bool,
@@ -121,7 +123,7 @@ pub fn asks_of(d: Deed, l: Limits) -> Asks
 }
 
 // What a block asks beside: whether a G00 is due, the feed in force, how many records the block has beside the deed's, and how many may still be written.
-#[derive(Drop)]
+#[derive(Clone, Copy)]
 pub struct Asked {
     pub rapid_due: bool,
     pub f: u32,

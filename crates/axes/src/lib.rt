@@ -1,6 +1,8 @@
 // What the cycles have in common: an axis with its allowance, a move named by the axis that goes in and the one across it, and whether a place lies outside the soft limits.
 // A cycle knows its axes by what they do; which of them is X is said once, by `facing`.
 // Of an axis stand here the distance from its start to its target, less what is left standing there, and the line where it ends. Positions lie on either side of each other: distance and side are worked out around zero.
+#![tactic(auto)]
+
 pub mod goes;
 pub mod limits;
 
@@ -8,7 +10,7 @@ ghost use Rattle.std.specs.Prelude.{◌≡◌, ◌<◌};
 ghost use Rattle.axes.specs.Axis.{distance, net, allowance_line};
 
 // Where the tool stands, where the block sends it, and the allowance that is left there.
-#[derive(Drop)]
+#[derive(Clone, Copy)]
 pub struct Axis {
     pub start: i32,
     pub target: i32,

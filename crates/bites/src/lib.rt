@@ -1,4 +1,6 @@
 // The bites of a bore, counted and not walked: a bite gets smaller for a while and then repeats itself, and from there on the rest is a division.
+#![tactic(auto)]
+
 ghost use Rattle.std.specs.Prelude.{◌≡◌, false, ◌+◌, ◌≤◌, ◌<◌, length};
 ghost use Rattle.bites.specs.Bites.{next_bite, biting, has_zero};
 ghost use Rattle.bites.specs.Falls.{Falls};
@@ -16,7 +18,7 @@ pub fn next_bite(bite: u32, less: u32, least: u32) -> u32
 }
 
 // So many bites are behind; `bite` comes next and repeats itself, or makes the last; `left` is what is left.
-#[derive(Drop)]
+#[derive(Clone, Copy)]
 struct Fallen {
     pub bites: u32,
     pub bite: u32,

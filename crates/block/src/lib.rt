@@ -1,6 +1,8 @@
 // The words of a line as a block: how the line begins, an array of the applying words and one of their places, with a slot for each address and index, and for each group of G and M.
 // (01: "Within a block, the last word of an address (for P and D, of an address and index) is the one that applies, and for G and M the last word of its group".)
 // What the G and M numbers mean stands in `codes`, what words may stand together in `rules`.
+#![tactic(auto)]
+
 ghost use Rattle.std.specs.Prelude.{◌≡◌, ◌+◌, ◌≤◌, ◌<◌, length};
 ghost use Rattle.addresses.specs.Words.{words_from};
 ghost use Rattle.codes.specs.Codes.{g_code, m_code};
@@ -64,7 +66,7 @@ pub const STEERING: usize = G + 6;
 
 // What a block holds behind its number. The place of a slot is where its applying word stands among
 // these words, counted from 1, and 0 where no word applies.
-#[derive(Drop)]
+#[derive(Clone, Copy)]
 pub struct Block {
     pub value: [i32; SLOTS],
     pub place: [u8; SLOTS],
@@ -84,7 +86,7 @@ pub struct Block {
 pub const LONGEST_LINE: usize = 160;
 
 // How a line begins; where that is another word, whether it is one of X Z U W that has no point and is not 0.
-#[derive(Drop)]
+#[derive(Clone, Copy)]
 pub enum Head {
     Blank,
     ProgramLine(u32),
@@ -93,7 +95,7 @@ pub enum Head {
 }
 
 // What a line starts with: a word, by how the line begins with it and the place behind it; or none; or a fault.
-#[derive(Drop)]
+#[derive(Clone, Copy)]
 pub enum LineStart {
     Blank,
     Fault,
@@ -101,21 +103,21 @@ pub enum LineStart {
 }
 
 // A line as it is read: how it begins, the words behind that, and whether it has a fault (alarm 5).
-#[derive(Drop)]
+#[derive(Clone, Copy)]
 pub struct ReadLine {
     pub head: Head,
     pub block: Block,
     pub faulty: bool,
 }
 
-#[derive(Drop)]
+#[derive(Clone, Copy)]
 pub struct Rest {
     pub block: Block,
     pub faulty: bool,
 }
 
 // Where a word goes.
-#[derive(Drop)]
+#[derive(Clone, Copy)]
 pub enum Slot {
     At(usize),
     Late,

@@ -2,6 +2,8 @@
 // `tm02_interpret` runs a tape; `tm02_start` and `tm02_next` run it one move at a time, with no list; `tm02_read` reads a record of a list back, and `tm02_judge` with `tm02_read_judged` a whole list in
 // one pass.
 // Settings come as eleven numbers and the answer goes as one. No caller has to check a number first: settings that are not eleven numbers, or of which one is out of range, are alarm 1.
+#![tactic(auto)]
+
 ghost use Rattle.std.specs.Prelude.{◌≡◌, length};
 ghost use Rattle.judging.specs.Judging.{judged};
 ghost use Rattle.readback.specs.Lists.{read_of, read_judged};

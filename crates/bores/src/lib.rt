@@ -1,5 +1,7 @@
 // A bore that is opened: it hands out its records one after the other, of G87 and of G88. What a bore is stands in `drilling`.
 // Each bite is made from the one before it, by one product and one quotient of 100; nothing else has either.
+#![tactic(auto)]
+
 ghost use Rattle.std.specs.Prelude.{◌≡◌, false, cond, ◌-◌, ◌≤◌, ◌<◌, eqb};
 ghost use Rattle.moves.specs.Kinds.{dwell};
 ghost use Rattle.drilling.specs.Drilling.{stroke_of, wrong, deep_at, bore_to, out_to, drilling};
@@ -10,7 +12,7 @@ use drilling::Bore;
 use moves::Record;
 
 // Which record comes next: a bite, the rapid to the start between two bites (G88), the rapid to the retract short of the depth reached, the dwell, the rapid to the start at the end, or none.
-#[derive(Drop)]
+#[derive(Clone, Copy)]
 pub enum Stage {
     Bite,
     Home,
@@ -21,7 +23,7 @@ pub enum Stage {
 }
 
 // `deep` is the depth reached, `bite` the next bite as it is before it is cut to reach the target, `left` what is left of the stroke.
-#[derive(Drop)]
+#[derive(Clone, Copy)]
 pub struct Cursor {
     pub bore: Bore,
     pub stage: Stage,
@@ -30,7 +32,7 @@ pub struct Cursor {
     pub left: u32,
 }
 
-#[derive(Drop)]
+#[derive(Clone, Copy)]
 pub struct Handed {
     pub record: Record,
     pub rest: Cursor,

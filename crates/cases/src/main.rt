@@ -5,6 +5,8 @@
 // The file `stdin` holds the first: a name, LF, lines of settings, the tape, byte 29, the listing, and byte 30; data/threads.cases, data/threads-refused.cases,
 // data/points.cases, data/drilling.cases, data/arcs.cases and data/blocks.cases hold the next in the same way. data/ALARMS.md is the card. Each line of the file `args` names an example:
 // data/examples has its tape, its listing, and its settings where they are other ones than those of `listmoves`. How each is written down the crate `stored` knows.
+#![tactic(auto)]
+
 mod files;
 
 ghost use Rattle.stored.specs.Texts.{FromOne};

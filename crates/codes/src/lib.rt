@@ -1,10 +1,12 @@
 // What the G and M numbers mean, and their groups: a match over the numbers gives both, or that the number is none of the paper's (alarm 9).
 // (01: "only the G and M numbers above"; "G groups (001): ..; M groups: ..".)
+#![tactic(auto)]
+
 ghost use Rattle.std.specs.Prelude.{◌≡◌};
 ghost use Rattle.codes.specs.Codes.{g_code, m_code};
 
 // Group 0 of G: the first five are kept, the others hold for their block only.
-#[derive(Drop)]
+#[derive(Clone, Copy)]
 pub enum Motion {
     Rapid,
     Feed,
@@ -22,14 +24,14 @@ pub enum Motion {
 }
 
 // Group 6 of G: G25, G27.
-#[derive(Drop)]
+#[derive(Clone, Copy)]
 pub enum Steering {
     Call,
     Jump,
 }
 
 // Group 2 of M: M00, M17, M30.
-#[derive(Drop)]
+#[derive(Clone, Copy)]
 pub enum Flow {
     Stop,
     Return,
@@ -37,7 +39,7 @@ pub enum Flow {
 }
 
 // What a number says beside its group.
-#[derive(Drop)]
+#[derive(Clone, Copy)]
 pub enum Meaning {
     Moves(Motion),
     // whether S is a cutting speed (G96) and not the spindle's (G97)
@@ -55,7 +57,7 @@ pub enum Meaning {
 }
 
 // The group of a number and its meaning.
-#[derive(Drop)]
+#[derive(Clone, Copy)]
 pub enum Code {
     Of(usize, Meaning),
     Unknown,

@@ -1,5 +1,7 @@
 // A case judged: its tape is run through the board's door with what the case gives, the listing is made of what came of it, and that is compared with the listing that is wanted. Where it agrees, the
 // tape is also run one move at a time.
+#![tactic(auto)]
+
 pub mod asked;
 
 ghost use Rattle.std.specs.Prelude.{◌≡◌, ◌≤◌, length};

@@ -1,6 +1,8 @@
 // The cuts of a thread that is opened: they hand out their depths one after the other. What the depths are stands in `depths`. (02, request 1.)
 // A constant cut is made from the one before it and the next piece of its division, with no product and no quotient. A falling one has one root, of a sum that is
 // carried along, and for a cut number one quotient.
+#![tactic(auto)]
+
 ghost use Rattle.std.specs.Prelude.{◌≡◌, false, ◌/◌, ◌<◌, ◌≤◌, min};
 ghost use Rattle.roots.specs.Roots.{root};
 ghost use Rattle.cuts.specs.declared.Cuts.TheVariants.{Even};
@@ -11,7 +13,7 @@ use depths::Rule;
 use division::Pieces;
 
 // The falling cuts that are left: `left` of them, each with one `square` more under its root than the `sum` before it.
-#[derive(Drop)]
+#[derive(Clone, Copy)]
 pub struct Falling {
     pub d3: u32,
     pub d6: u32,
@@ -21,14 +23,14 @@ pub struct Falling {
 }
 
 // The cuts that are left: the pieces of a division, or falling ones by depth or by number.
-#[derive(Drop)]
+#[derive(Clone, Copy)]
 pub enum Cuts {
     Even(Pieces),
     ByDepth(Falling),
     ByNumber(Falling),
 }
 
-#[derive(Drop)]
+#[derive(Clone, Copy)]
 pub struct Handed {
     pub depth: u32,
     pub rest: Cuts,

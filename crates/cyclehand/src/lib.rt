@@ -1,5 +1,7 @@
 // The next record of the cycle that is due, whichever of the four it is. The paths of grooving and drilling stand here, those of turning and threading in `passhand`, with what an ask comes to.
 // All else that can be due is given by `inhand`: the record of a word, that of a deed that is no cycle, and M00 or M30 behind a cycle.
+#![tactic(auto)]
+
 ghost use Rattle.std.specs.Prelude.{◌≤◌, ◌≡◌, length};
 ghost use Rattle.moves.specs.Form.{record_size};
 ghost use Rattle.cyclewords.specs.Sizes.{due_words};

@@ -1,5 +1,7 @@
 // The cycles as one family. Whoever runs a block asks a cycle what is asked here, and never which cycle it is.
 // A new cycle is crates of its own, a row in the table of `codes` and in that of `stands`, a clause of `keep` of `acts`, the function of `scaling` that gives it its numbers and its clause in `deeds`, and one arm in each function below and in the block's cursor (`stages`, `opening`, `handing`).
+#![tactic(auto)]
+
 ghost use Rattle.std.specs.Prelude.{◌≡◌, false, length};
 ghost use Rattle.axes.specs.Limits.{any_outside};
 ghost use Rattle.cycles.specs.Cycle.{wrong, least_feed, records};
@@ -18,7 +20,7 @@ pub const LEAST_PITCH: u32 = 10;
 
 pub const GREATEST_FEED: u32 = 9_999;
 
-#[derive(Drop)]
+#[derive(Clone, Copy)]
 pub enum Cycle {
     Turning(Turning),
     Threading(Thread),

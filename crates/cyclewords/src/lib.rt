@@ -1,5 +1,7 @@
 // A cycle that is opened, as the 32-bit words of what is due, both ways: behind what is in hand and the tag of the cycle, the cursor's fields in their order, and zeros.
 // Reading is total: any words are some cursor, and whether it is sound is asked elsewhere.
+#![tactic(auto)]
+
 pub mod cutting;
 pub mod drilled;
 pub mod grooved;

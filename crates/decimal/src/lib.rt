@@ -1,5 +1,7 @@
 // Words and decimal numbers written as text into a lent buffer, one behind the other.
 // Each function writes from a place on and answers the place behind what it wrote; all other bytes stay. Whoever calls it has seen to the room.
+#![tactic(auto)]
+
 ghost use Rattle.std.specs.Prelude.{◌≡◌, [], ◌∷◌, ◌++◌, ◌+◌, ◌<◌, ◌≤◌, length};
 ghost use Rattle.decimal.specs.Decimal.{digits, decimal, signed};
 ghost use Rattle.decimal.specs.Wrote.{Wrote};

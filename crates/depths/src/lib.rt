@@ -1,11 +1,13 @@
 // The depths of a thread's cuts, per side and from the crest: constant or falling, D3 being a depth or the number of cuts, and how many cuts reach D6. (02, request 1.)
 // They know nothing of lines and records; those are the threading cycle's. No cut is made for the count: it costs the same for one and for a thousand million. `cuts` opens them.
+#![tactic(auto)]
+
 ghost use Rattle.std.specs.Prelude.{◌≡◌, ◌≤◌};
 ghost use Rattle.depths.specs.declared.Rule.TheVariants.{FallingDepth};
 ghost use Rattle.depths.specs.Depths.{greatest_d, cut_count, Proper};
 
 // Constant or falling, and whether D3 is the depth of a cut or the number of cuts.
-#[derive(Drop)]
+#[derive(Clone, Copy)]
 pub enum Rule {
     EvenDepth,
     EvenNumber,

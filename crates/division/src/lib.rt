@@ -1,11 +1,13 @@
 // The even division of a length. (01: "Dividing a length".) A length and a greatest piece give the count, and the count the pieces.
 // A quotient and a remainder are worked out once; the pieces are then handed out one after the other, and the remainder is carried along.
+#![tactic(auto)]
+
 ghost use Rattle.std.specs.Prelude.{◌≡◌, [], ◌∷◌, ◌<◌, ◌^◌};
 ghost use Rattle.division.specs.Division.{count, pieces, sum};
 ghost use Rattle.division.specs.Carried.{row_of};
 
 // The pieces that are left: `left` of them, each `piece` long, and one longer while there is a `remainder`, of which it takes one.
-#[derive(Drop)]
+#[derive(Clone, Copy)]
 pub struct Pieces {
     pub piece: u32,
     pub remainder: u32,
@@ -13,7 +15,7 @@ pub struct Pieces {
 }
 
 // A piece that was handed out, and the pieces that are left behind it.
-#[derive(Drop)]
+#[derive(Clone, Copy)]
 pub struct HandedOut {
     pub piece: u32,
     pub rest: Pieces,

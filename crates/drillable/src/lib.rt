@@ -1,5 +1,7 @@
 // Whether a bore that comes back from a caller is one that `bores` can hand out: a caller may have changed it, and then its next record would be no record of a bore.
 // Every cursor that was opened, or is left behind a record, passes.
+#![tactic(auto)]
+
 ghost use Rattle.std.specs.Prelude.{◌≡◌, true, ◌≤◌};
 ghost use Rattle.bites.specs.Bites.{biting, has_zero};
 ghost use Rattle.bores.specs.Cursor.{Ready, Sound};

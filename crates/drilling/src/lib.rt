@@ -1,6 +1,8 @@
 // The drilling cycles G87 and G88, as their block gives them: their stroke and bites (alarm 19), where their moves reach (18), how many records they have (20), and the records. (02, request 9.)
 // Both go in along Z by the same bites; they differ in what lies between two of them.
 // No function here hands out a record. Bites are walked only up to the one that repeats itself, at most 634 of them where the first is a D word; from there on they are divided.
+#![tactic(auto)]
+
 ghost use Rattle.std.specs.Prelude.{◌≡◌, false, cond, eqb, length};
 ghost use Rattle.axes.specs.Limits.{any_outside};
 ghost use Rattle.drilling.specs.Drilling.{stroke_of, wrong, bite_count, drilling};
@@ -9,7 +11,7 @@ use settings::Limits;
 
 // `full` is G88, which goes to the start between bites; `x` is where the tool stands on X, `start` and `target` are Z. `first` is the first bite, 0 for one bite in all; each next one is
 // `less` percent smaller than the one before, and no smaller than `least`; `dwell` is in tenths of a second, 0 for none; `back` is the retract; `f` and `g95` are those of the feeds.
-#[derive(Drop)]
+#[derive(Clone, Copy)]
 pub struct Bore {
     pub full: bool,
     pub x: i32,

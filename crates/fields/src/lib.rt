@@ -1,4 +1,6 @@
 // A record taken from the bytes of a list. It judges nothing.
+#![tactic(auto)]
+
 ghost use Rattle.std.specs.Prelude.{◌≡◌, ◌+◌, ◌<◌, ◌≤◌, length, take, drop};
 ghost use Rattle.moves.specs.Form.{record_size, record_start, program_at};
 ghost use Rattle.moves.specs.Reading.{number_at, record_in, origin_in, listed_in};

@@ -1,6 +1,8 @@
 // Finding the next block of a program: a walk to the next line that is one. (01: "Running a program runs its blocks".) What a walk along the whole tape would find of a program or of the
 // block of a number is defined here too; the code looks both up in the table of places, and a law says that this is the same.
 // The tape that is handed in begins where the whole tape does, so that places count from there, and ends where its reading ended: nothing behind that exists.
+#![tactic(auto)]
+
 ghost use Rattle.std.specs.Prelude.{◌≡◌, ◌≤◌, length};
 ghost use Rattle.tape.specs.Lines.{lines};
 ghost use Rattle.finding.specs.Finding.{AnyBlock, here_of, block_number, first_block, next_block, NextIn};
@@ -8,7 +10,7 @@ ghost use Rattle.finding.specs.Finding.{AnyBlock, here_of, block_number, first_b
 use block::{Head, LineStart};
 
 // A block line that was found: its first byte, its number, the place in its text behind its number, where the text ends, and where the next line begins.
-#[derive(Drop)]
+#[derive(Clone, Copy)]
 pub struct BlockAt {
     pub at: usize,
     pub number: u32,
@@ -18,14 +20,14 @@ pub struct BlockAt {
 }
 
 // The next block line of a program, or that the program ends before one.
-#[derive(Drop)]
+#[derive(Clone, Copy)]
 pub enum NextBlock {
     At(BlockAt),
     Nowhere,
 }
 
 // What a line is to a search: the one that is sought, one that ends the search, or one to be passed.
-#[derive(Drop)]
+#[derive(Clone, Copy)]
 pub enum Here {
     Is,
     Ends,

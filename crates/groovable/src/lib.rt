@@ -1,5 +1,7 @@
 // Whether a groove that comes back from a caller is one that `plunges` can hand out: a caller may have changed it, and then its next record would be no record of a groove.
 // Every cursor that was opened, or is left behind a record, passes. No cut and no plunge is gone through for it.
+#![tactic(auto)]
+
 ghost use Rattle.std.specs.Prelude.{◌≡◌, true, ◌+◌, ◌≤◌, ◌<◌, ◌^◌, ◌+ℤ◌};
 ghost use Rattle.std.specs.Int.{w32};
 ghost use Rattle.std.proofs.Common.{SFits};

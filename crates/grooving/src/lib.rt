@@ -1,6 +1,8 @@
 // The grooving cycle G86, as its block gives it: its lengths and tool width (alarm 19), where its moves reach (18), how many records it has (20), and the records. (01: "G86".)
 // Alongside and facing are one cycle with the axes exchanged: it plunges along `depth` and goes on along `width`.
 // No function here opens the cycle: each costs the same for one plunge and for millions. `plunges` opens it.
+#![tactic(auto)]
+
 ghost use Rattle.std.specs.Prelude.{◌≡◌, false, ◌<◌, length};
 ghost use Rattle.axes.specs.Limits.{any_outside};
 ghost use Rattle.grooving.specs.Grooving.{length_of, wrong, step_count, cut_count, plunge_count, last_width, grooving};
@@ -8,7 +10,7 @@ ghost use Rattle.grooving.specs.Grooving.{length_of, wrong, step_count, cut_coun
 use settings::Limits;
 
 // Where an axis stands and where the block sends it.
-#[derive(Drop)]
+#[derive(Clone, Copy)]
 pub struct Way {
     pub start: i32,
     pub target: i32,
@@ -16,7 +18,7 @@ pub struct Way {
 
 // `tool` is the tool's width and `overlap` the least overlap, both counted on the width axis; `piece` is the greatest cut, 0 for one, and `back` the retract, both
 // counted on the depth axis; `dwell` is in tenths of a second, 0 for none; `f` and `g95` are those of the feeds.
-#[derive(Drop)]
+#[derive(Clone, Copy)]
 pub struct Groove {
     pub facing: bool,
     pub depth: Way,

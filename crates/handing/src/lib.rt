@@ -1,11 +1,13 @@
 // A block that is opened hands out its records one after the other, whatever its deed; none is left where it is over. What is due stands in `stages`.
+#![tactic(auto)]
+
 ghost use Rattle.std.specs.Prelude.{◌≡◌, false};
 ghost use Rattle.stages.specs.Cursor.{stage_over, cycle_over, over, Sound, Makes};
 
 use moves::Record;
 use stages::{Due, Plan, Stage};
 
-#[derive(Drop)]
+#[derive(Clone, Copy)]
 pub struct Handed {
     pub record: Record,
     pub rest: Due,

@@ -1,6 +1,8 @@
 // What is due of a block that is opened, as 32-bit words that a caller lends, both ways. The first says what is in hand: nothing, a record of a word before the deed, or one of the deed; the second is the tag of what is kept beside it, which follows.
 // A record of a word before the deed leaves the deed whole, so the deed is kept; from the deed on, what is due is all that is kept.
 // Reading is total: any words are something due, and whether that is sound is asked elsewhere. The plan of the block, and where it came from, stand in `planwords`.
+#![tactic(auto)]
+
 ghost use Rattle.std.specs.Prelude.{◌≡◌, true, false, ◌<◌, length};
 ghost use Rattle.stages.specs.declared.Due.{Due};
 ghost use Rattle.stages.specs.declared.Due.TheVariants.{Single};

@@ -1,5 +1,7 @@
 // What is in hand of a block that was opened: a record and those behind it, or nothing. (02, request 12: "hands out the next record".)
 // It comes from the block's own cursor, as what the list engine writes does.
+#![tactic(auto)]
+
 ghost use Rattle.std.specs.Prelude.{◌≡◌, ◌∷◌};
 ghost use Rattle.taking.specs.declared.Hand.TheVariants.{Block};
 ghost use Rattle.taking.specs.Hands.{in_hand, HandSound};
@@ -10,7 +12,7 @@ use stages::Cursor;
 use taking::Hand;
 
 // A record, and what is in hand behind it.
-#[derive(Drop)]
+#[derive(Clone, Copy)]
 pub struct Taken {
     pub listed: Listed,
     pub rest: Hand,

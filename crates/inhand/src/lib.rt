@@ -1,5 +1,7 @@
 // WHAT IS IN HAND OF A BLOCK, in the words of an engine's state: the next record of it is given. How the state is put into its words stands in `statewords`, whose functions are passed on. (02, request 12.)
 // Words from elsewhere are tested before they are used.
+#![tactic(auto)]
+
 ghost use Rattle.std.specs.Prelude.{◌≡◌, false, ◌≤◌, length};
 ghost use Rattle.moves.specs.Form.{record_size};
 ghost use Rattle.inhand.specs.State.{state_words, is_empty_in, GiveMeets};

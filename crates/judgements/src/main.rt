@@ -1,5 +1,7 @@
 // Small tapes and what comes of reading each, a line for each: its name, and then `read A to B`, A the place of the first line and B the place behind the last
 // line that is read, or `ALARM n at p`. The file `stdin` holds them: a name, LF, the tape, and byte 30. `stdout` holds what 01 says of each.
+#![tactic(auto)]
+
 ghost use Rattle.std.specs.Prelude.{◌≤◌, length};
 
 use libc::{STDIN_FILENO, STDOUT_FILENO};

@@ -1,4 +1,6 @@
 // A list judged as a whole: its version and how many records it has, or why it is refused. (02: "It accepts exactly lists in the written form"; "the reader takes both".)
+#![tactic(auto)]
+
 ghost use Rattle.std.specs.Prelude.{◌≡◌, ◌&&◌, ◌<◌, ◌≤◌, length, drop};
 ghost use Rattle.moves.specs.Form.{header_size, program_at};
 ghost use Rattle.moves.specs.Reading.{record_in, count_in};
@@ -20,7 +22,7 @@ pub const BAD_RECORD: u32 = 4;
 
 pub const BAD_INDEX: u32 = 5;
 
-#[derive(Drop)]
+#[derive(Clone, Copy)]
 pub enum Judged {
     Good(Version, usize),
     Refused(u32),

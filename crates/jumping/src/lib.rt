@@ -1,12 +1,14 @@
 // A jump that stands alone in its block, told by the block's text: behind the block's number stand ` G27 L` and the number, and nothing else.
 // Such a block is done without its words being put together; every other text is told by the words that it has.
+#![tactic(auto)]
+
 ghost use Rattle.std.specs.Prelude.{◌≡◌};
 ghost use Rattle.jumping.specs.Jumping.{is_front, to_by, jump_in};
 
 use numbers::Number;
 
 // The number of the block that is jumped to, or that the text is another one.
-#[derive(Drop)]
+#[derive(Clone, Copy)]
 pub enum Jumping {
     To(u32),
     Other,

@@ -1,11 +1,13 @@
 // Which lists are lawful. (02, request 6: "It accepts exactly lists in the written form".) Here is what differs between the two versions of a list that are read; right.rt judges a record.
 // (02, request 7: "the reader takes both, version 1 to 4,000 records and without a block".) Version 2 is what the writer writes: its sizes stand in `moves`.
+#![tactic(auto)]
+
 pub mod right;
 
 ghost use Rattle.std.specs.Prelude.{◌≡◌, ◌-◌, ◌<◌};
 ghost use Rattle.lawful.specs.Versions.{size_in, limit_in, start_in};
 
-#[derive(Drop)]
+#[derive(Clone, Copy)]
 pub enum Version {
     One,
     Two,

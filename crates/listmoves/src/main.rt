@@ -1,5 +1,7 @@
 // The program `listmoves`: a tape from standard input is run, and its list of moves is written to standard output as text, or its alarm.
 // (01: "It prints mark, version and count, then kind, flags, X, Z and value for each record; on an alarm the word ALARM, number, place, count.")
+#![tactic(auto)]
+
 ghost use Rattle.std.specs.Prelude.{◌≡◌, ◌≤◌, length};
 ghost use Rattle.octets.specs.Bytes.{laid};
 ghost use Rattle.listmoves.specs.Printed.{fresh_buffer, printed, text_size};

@@ -2,6 +2,8 @@
 // the block that it came from, or `REFUSED` and why; and at the end what the reader's door answers where one number less than a record has is lent.
 // The file `stdin` holds them, a line for each: a name, a space, the number of the record, a space, and the bytes in hexadecimal digits; `*` behind them repeats the last record until there are
 // as many as the header counts. `stdout` holds what 02 says of each, by a separate reading of it.
+#![tactic(auto)]
+
 ghost use Rattle.std.specs.Prelude.{◌<◌, ◌≤◌, length};
 
 use lawful::Version;

@@ -1,4 +1,6 @@
 // A block as a whole: it is judged, and where nothing refuses it, its records are written. (01: "Running a block"; "A refused block writes nothing".)
+#![tactic(auto)]
+
 ghost use Rattle.std.specs.Prelude.{◌≡◌, ◌-◌, ◌≤◌, length};
 ghost use Rattle.octets.specs.Bytes.{laid};
 ghost use Rattle.moves.specs.Form.{header_size, record_start, room_of, row_from};
@@ -14,14 +16,14 @@ use state::State;
 use verdicts::Verdict;
 
 // The state after a block that was done, and how many records are written by then.
-#[derive(Drop)]
+#[derive(Clone, Copy)]
 pub struct BlockDone {
     pub state: State,
     pub count: usize,
 }
 
 // A refusal is its alarm's number.
-#[derive(Drop)]
+#[derive(Clone, Copy)]
 pub enum BlockOutcome {
     Refused(u8),
     Done(BlockDone),

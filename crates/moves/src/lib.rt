@@ -2,6 +2,8 @@
 // The header's size, the record's size, the record limit, the version, the mark and the places of the fields stand here, once each, as they do in specs/Form.antt: who writes a list and who
 // reads one go by them. So do the kinds' numbers and flags, as in specs/Kinds.antt.
 // A record is what is done, and the machine position after it, with a function for each kind; the block that it came from is put on where it is written.
+#![tactic(auto)]
+
 pub mod list;
 
 ghost use Rattle.std.specs.Prelude.{◌≡◌, cond};
@@ -45,7 +47,7 @@ pub const AT_PROGRAM: usize = 16;
 
 pub const AT_BLOCK: usize = 18;
 
-#[derive(Drop)]
+#[derive(Clone, Copy)]
 pub struct Record {
     pub kind: u8,
     pub flags: u8,
@@ -55,14 +57,14 @@ pub struct Record {
 }
 
 // The block that a record came from: the number of its program, and its own. (02, request 7: "For a move inside a subprogram it is the subprogram's block".)
-#[derive(Drop)]
+#[derive(Clone, Copy)]
 pub struct Origin {
     pub program: u16,
     pub block: u16,
 }
 
 // A record as it stands in a list, with the block that it came from.
-#[derive(Drop)]
+#[derive(Clone, Copy)]
 pub struct Listed {
     pub what: Record,
     pub origin: Origin,

@@ -1,4 +1,6 @@
 // A record as seven numbers, as a caller in C gets it: kind, flags, X, Z, value, program and block. A list of version 1 has no program and block, and both are -1.
+#![tactic(auto)]
+
 ghost use Rattle.std.specs.Prelude.{◌≡◌, ◌++◌, ◌≤◌, pos, length, drop};
 ghost use Rattle.judging.specs.Judging.{judged};
 ghost use Rattle.readback.specs.Lists.{read_of, read_judged};

@@ -1,11 +1,13 @@
 // The one number reader. It takes the part of a line that holds a word's number (for P and D what stands behind `=`), and reads it by the form that
 // the word's address asks for. (01: "The part of a word after its address is read as a number by one rule".)
+#![tactic(auto)]
+
 ghost use Rattle.std.specs.Prelude.{◌≡◌, ◌-◌, ◌^◌, ◌≤◌, ◌<◌, length, drop};
 ghost use Rattle.numbers.specs.declared.NumberForm.TheVariants.{FiveDigits};
 ghost use Rattle.numbers.specs.Numbers.{Run, with_sign, unsigned_path, sign_size, path_of, digits_in, number_of};
 
 // The forms of numbers: a path's (X Z U W P); digits alone, two (G M), four (N F S T and program numbers) or five (L); and D's.
-#[derive(Drop)]
+#[derive(Clone, Copy)]
 pub enum NumberForm {
     Path,
     TwoDigits,
@@ -15,14 +17,14 @@ pub enum NumberForm {
 }
 
 // A number and whether it was written with a point, or the refusal.
-#[derive(Drop)]
+#[derive(Clone, Copy)]
 pub enum Number {
     Value(i32, bool),
     Bad,
 }
 
 // A run of digits: its value, and how many they are.
-#[derive(Drop)]
+#[derive(Clone, Copy)]
 pub struct Digits {
     pub value: u32,
     pub count: usize,

@@ -1,5 +1,7 @@
 // Numbers as bytes, the lowest byte first, both ways; and bytes put into a lent buffer.
 // Only these functions know the order of the bytes.
+#![tactic(auto)]
+
 ghost use Rattle.std.specs.Prelude.{◌≡◌, ◌+◌, ◌*◌, ◌^◌, ◌<◌, ◌≤◌, length};
 ghost use Rattle.octets.specs.Bytes.{little_endian, value_of, word_of, signed_bytes, signed_of, laid};
 

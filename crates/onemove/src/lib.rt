@@ -2,6 +2,8 @@
 // the alarm when asked"; "After an alarm or the end it repeats that answer; a new start clears it.")
 // While a block has records, an ask hands out the next of them (`inhand`); else blocks are done, until one has a record or the run is over (`stepping`). Words from elsewhere are tested before
 // they are used: those that cannot be asked (`CanAsk`) are refused, all others are answered, whoever made them.
+#![tactic(auto)]
+
 ghost use Rattle.std.specs.Prelude.{◌≡◌, true, false, ◌≤◌, length};
 ghost use Rattle.panel.specs.Row.{unfit};
 ghost use Rattle.moves.specs.Form.{record_size};

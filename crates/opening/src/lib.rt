@@ -1,4 +1,6 @@
 // A block is opened: its plan is made, and its first record is due. (02, of an arc: "a following record, kind 10, carries the centre".) What is due stands in `stages`.
+#![tactic(auto)]
+
 ghost use Rattle.std.specs.Prelude.{◌≡◌, false};
 ghost use Rattle.cycles.specs.Cycle.{wrong, records};
 ghost use Rattle.cycles.specs.Known as cycle;{

@@ -1,11 +1,13 @@
 // An answer as one number, as it goes to a caller in C; and what an ask for the next move comes to, as one number too. (02, request 12: "hands out the next record or the alarm when asked".)
+#![tactic(auto)]
+
 ghost use Rattle.std.specs.Prelude.{◌≡◌, ◌+◌, ◌*◌, ◌<◌};
 ghost use Rattle.packing.specs.Packing.{Fits, Packed, answer_number, told_number, FitsTold, Bounded};
 
 use answers::Answer;
 
 // What an ask comes to: a record, which is laid at the front of the lent bytes; the answer of the run; or that nothing was done: words that cannot be asked with what is lent, or bytes that have no room for a record.
-#[derive(Drop)]
+#[derive(Clone, Copy)]
 pub enum Told {
     Move,
     Over(Answer),

@@ -1,6 +1,8 @@
 // The settings as a row of numbers, as a caller in C hands them over. Each number has its place, and new settings come behind the old ones.
 // And what 01's program `listmoves` runs with: "with main 1, lowest subroutine 80, retract 500, start X 60000 Z 50000, limits -200000 to 200000, table zero"; and with the factory's one empty cut
 // (02: "factory 1") and no points asked for. The stored tapes and the trials run with it too.
+#![tactic(auto)]
+
 ghost use Rattle.std.specs.Prelude.{◌≡◌, length};
 ghost use Rattle.panel.specs.Row.{settings_count, unfit, settings_of};
 ghost use Rattle.panel.specs.Listmoves.{listmoves_row, listmoves, no_offsets};

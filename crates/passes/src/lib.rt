@@ -1,5 +1,7 @@
 // A turning cycle that is opened: it hands out its records one after the other. What a turning cycle is stands in `turning`.
 // Each pass line is made from the one before it and the next piece of the division; no pass has a product or a quotient.
+#![tactic(auto)]
+
 ghost use Rattle.std.specs.Prelude.{◌≡◌, true, false, ◌<◌};
 ghost use Rattle.turning.specs.Turning.{too_short, turning};
 ghost use Rattle.passes.specs.declared.Stage.TheVariants.{In, Cut, Out, Back};
@@ -11,7 +13,7 @@ use turning::{Pass, Turning};
 use whole::Side;
 
 // Which record of a pass comes next. 01: "rapid X to the pass line; feed Z to the end line; feed X to the start X; rapid Z to the start Z".
-#[derive(Drop)]
+#[derive(Clone, Copy)]
 pub enum Stage {
     In,
     Cut,
@@ -20,7 +22,7 @@ pub enum Stage {
 }
 
 // `line` is the line of the present pass, between two passes that of the one before, and before the first pass the start; `depths` are those of the passes that are left behind it.
-#[derive(Drop)]
+#[derive(Clone, Copy)]
 pub struct Cursor {
     pub pass: Pass,
     pub side: Side,
@@ -29,14 +31,14 @@ pub struct Cursor {
     pub stage: Stage,
 }
 
-#[derive(Drop)]
+#[derive(Clone, Copy)]
 pub struct Handed {
     pub record: Record,
     pub rest: Cursor,
 }
 
 // A pass as a whole: its four records, and what is left behind them.
-#[derive(Drop)]
+#[derive(Clone, Copy)]
 pub struct Passed {
     pub inward: Record,
     pub along: Record,

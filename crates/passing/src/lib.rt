@@ -1,4 +1,6 @@
 // A turning cycle is written a pass at a time by a loop of its own, in which its cursor is not one case of all that can be due. The room for all of it was asked for before (alarm 20).
+#![tactic(auto)]
+
 ghost use Rattle.std.specs.Prelude.{◌≡◌, true, ◌+◌, ◌*◌, ◌≤◌, length};
 ghost use Rattle.octets.specs.Bytes.{laid};
 ghost use Rattle.moves.specs.Form.{record_size, row_from};

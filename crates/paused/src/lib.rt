@@ -1,19 +1,21 @@
 // A run that waits between two blocks, for the engine that hands out one record at a time: where it stands, the programs that wait for a call to return, and what it has come to.
 // (02, request 12: an engine "that keeps the run's state, call places included".)
+#![tactic(auto)]
+
 use ahead::Frame;
 use answers::Answer;
 use resuming::Waiting;
 use taking::Run;
 
 // Whether there is more to run, or the answer that the run has come to.
-#[derive(Drop)]
+#[derive(Clone, Copy)]
 pub enum Phase {
     Running,
     Over(Answer),
 }
 
 // The programs that wait are the first of `waiting`, as many as calls are under way, the last one last; the tape is read up to `end`, and `filled` entries of the table of places are the tape's.
-#[derive(Drop)]
+#[derive(Clone, Copy)]
 pub struct Going {
     pub frame: Frame,
     pub run: Run,

@@ -1,6 +1,8 @@
 // The lent table of the places of program lines and blocks. (02, request 8: "a lent table of the places of program lines and their blocks, by program, its line first, then by number".)
 // An entry is one number: the program's number, the slot (0 for the program's line, the block's number and one more for a block) and the place on the tape, 16 bits for each of the lower two.
 // The first `count` entries ascend, so that one search finds a line, and finds a repeated number. A search may be asked of any table: it ends, and is right where the entries ascend.
+#![tactic(auto)]
+
 ghost use Rattle.std.specs.Prelude.{◌≡◌, ◌++◌, ◌+◌, ◌*◌, ◌<◌, ◌≤◌, length, take, drop};
 ghost use Rattle.places.specs.Places.{sixteen_bits, key_of, entry_of, key_in, place_in, Row, inserted, below, looked_up, is_held, program_in, block_in};
 
@@ -11,7 +13,7 @@ const SIXTEEN_BITS: u64 = 65_536;
 const HIGHEST_SLOT: u32 = 65_535;
 
 // The first byte of the line that was sought, or that there is none.
-#[derive(Drop)]
+#[derive(Clone, Copy)]
 pub enum Found {
     At(usize),
     Nowhere,

@@ -1,4 +1,6 @@
 // The plan of a block in words, without its deed, which is kept with what is due, and the block that it came from.
+#![tactic(auto)]
+
 ghost use Rattle.std.specs.Prelude.{◌≡◌, ◌+◌, ◌≤◌, length};
 ghost use Rattle.stages.specs.declared.Due.{Due};
 ghost use Rattle.resumable.specs.Kept.{with_deed};

@@ -1,5 +1,7 @@
 // A groove that is opened: it hands out its records one after the other. What a groove is stands in `grooving`.
 // Each depth and each place across is made from the one before it and the next piece of its division; no plunge and no cut has a product or a quotient.
+#![tactic(auto)]
+
 pub mod before;
 
 ghost use Rattle.std.specs.Prelude.{◌≡◌, true, false, cond, ◌-◌, ◌<◌, ◌≤◌};
@@ -14,7 +16,7 @@ use moves::Record;
 use whole::Side;
 
 // Which record comes next: a cut, the rapid back between two cuts, the dwell, the rapid out, the rapid to the next plunge or to the start, or none.
-#[derive(Drop)]
+#[derive(Clone, Copy)]
 pub enum Stage {
     Cut,
     Back,
@@ -26,7 +28,7 @@ pub enum Stage {
 
 // The present plunge stands at `width`, has reached the depth `deep`, and has `cuts` left; `plunge` has the cuts of every plunge, `steps` are those across that are
 // left. Where there are `several` plunges, a rapid to the start ends the cycle.
-#[derive(Drop)]
+#[derive(Clone, Copy)]
 pub struct Cursor {
     pub groove: Groove,
     pub stage: Stage,
@@ -38,14 +40,14 @@ pub struct Cursor {
     pub several: bool,
 }
 
-#[derive(Drop)]
+#[derive(Clone, Copy)]
 pub struct Handed {
     pub record: Record,
     pub rest: Cursor,
 }
 
 // A cut and the rapid back behind it, and what is left behind them.
-#[derive(Drop)]
+#[derive(Clone, Copy)]
 pub struct CutAndBack {
     pub cut: Record,
     pub back: Record,

@@ -1,5 +1,7 @@
 // A groove is written by a loop of its own, in which its cursor is not one case of all that can be due, and each cut that another follows with its rapid back, two records at a time. The room for
 // all of it was asked for before (alarm 20).
+#![tactic(auto)]
+
 ghost use Rattle.std.specs.Prelude.{◌≡◌, true, false, ◌+◌, ◌*◌, ◌<◌, ◌≤◌, length};
 ghost use Rattle.octets.specs.Bytes.{laid};
 ghost use Rattle.moves.specs.Form.{record_size, row_from};
@@ -13,7 +15,7 @@ use plunges::Cursor;
 const TWO_RECORDS: usize = 2 * moves::RECORD_SIZE;
 
 // What is left of a groove of which some records were written, and the place of the next.
-#[derive(Drop)]
+#[derive(Clone, Copy)]
 pub struct Put {
     pub at: usize,
     pub rest: Cursor,

@@ -1,5 +1,7 @@
 // The records of a block are written: one loop asks the opened block (`handing`) for them, up to a G84 or a G86, which `passing` and `plunging` write. (01: "written into the room after the header".)
 // The room for all of them was asked for before (alarm 20).
+#![tactic(auto)]
+
 ghost use Rattle.std.specs.Prelude.{◌≡◌, true, ◌+◌, ◌*◌, ◌≤◌, length};
 ghost use Rattle.octets.specs.Bytes.{laid};
 ghost use Rattle.moves.specs.Form.{record_size, record_start, row_from};

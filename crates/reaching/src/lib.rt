@@ -1,4 +1,6 @@
 // Whether a step of a length to a side ends where 32 bits hold it. It is asked of a step that comes from outside, before `whole::step` takes it.
+#![tactic(auto)]
+
 ghost use Rattle.std.specs.Prelude.{◌≡◌, true, ◌+ℤ◌};
 ghost use Rattle.std.specs.Int.{w32};
 ghost use Rattle.std.proofs.Common.{SFits};

@@ -3,4 +3,6 @@
 // answers record k or a refusal, and `numbered` does the same in plain numbers, for callers in C.
 // Who reads more than one record of a list judges it once (`judging::judge_list`) and then reads its records one after the other (`read::read_judged`, or `fields::listed_at` where it is known
 // that the list has the record).
+#![tactic(auto)]
+
 pub mod read;

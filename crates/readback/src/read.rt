@@ -9,13 +9,13 @@ use lawful::Version;
 use moves::{Origin, Record};
 
 // The block that a record came from. A list of version 1 does not tell it, which is not the same as program 0 and block 0.
-#[derive(Drop)]
+#[derive(Clone, Copy)]
 pub enum Source {
     From(Origin),
     Untold,
 }
 
-#[derive(Drop)]
+#[derive(Clone, Copy)]
 pub enum ReadBack {
     Found(Record, Source),
     Refused(u32),

@@ -1,12 +1,14 @@
 // What a block asks of the runner: to go on, call, jump, return or end.
 // (01: "G25: L is 100 times the subroutine number plus the repeats; repeats 0 means once. .. M17 returns. G27 goes to the block numbered L of the same program. .. M30 ends the run.")
+#![tactic(auto)]
+
 ghost use Rattle.std.specs.Prelude.{◌≡◌};
 ghost use Rattle.requests.specs.Request.{times_of, steered, flow_by, request_of};
 
 use block::Block;
 use codes::{Code, Flow, Meaning, Steering};
 
-#[derive(Drop)]
+#[derive(Clone, Copy)]
 pub enum Request {
     On,
     // the number of the program that is called, and how often

@@ -1,5 +1,7 @@
 // Whether a block that is opened can go on with what is kept of it: what is due, or the deed while a record of a word before it is due. What `opening` and `handing` left always can; what comes
 // back from a caller who kept it may have been changed, and is asked here before its next record is.
+#![tactic(auto)]
+
 ghost use Rattle.std.specs.Prelude.{◌≡◌, true, not};
 ghost use Rattle.resumable.specs.Kept.{leads, Fits};
 

@@ -1,10 +1,12 @@
 // An engine that hands out one record at a time, as definitions (specs/), and the law that its answers in turn are the list engine's records and then its answer. Of code there are only two types.
+#![tactic(auto)]
+
 use ahead::ProgramAt;
 use answers::Answer;
 use moves::Listed;
 
 // A program that waits for a call to return: the place to go on in it, and how often the called program is still to run.
-#[derive(Drop)]
+#[derive(Clone, Copy)]
 pub struct Waiting {
     pub program: ProgramAt,
     pub after: usize,
@@ -12,7 +14,7 @@ pub struct Waiting {
 }
 
 // What is handed out: a record with its program and block, or the answer of the run.
-#[derive(Drop)]
+#[derive(Clone, Copy)]
 pub enum Handed {
     Move(Listed),
     Over(Answer),

@@ -1,5 +1,7 @@
 // Where a run goes on behind a block: further in its program, in a program that is called, in one that waits, or nowhere. The programs that wait for a call stand in ten places, and no function
 // calls itself. (02, request 12: "call places included".)
+#![tactic(auto)]
+
 ghost use Rattle.std.specs.Prelude.{◌≡◌, ◌≤◌, ◌<◌, length};
 ghost use Rattle.ahead.specs.Ahead.{most_calls};
 ghost use Rattle.returning.specs.Moving.{within_of, moved_to, over_with, stopped_with, top_of, popped_to, entry_of, repeated_to, came_back, pushed_to, called_to};

@@ -1,4 +1,6 @@
 // The whole part of a square root, bit by bit from the top: at most 32 rounds, and 16 for a number of 32 bits. A round has one product and no quotient.
+#![tactic(auto)]
+
 ghost use Rattle.std.specs.Prelude.{◌≡◌, ◌*◌, ◌≤◌, ◌<◌, ◌^◌};
 ghost use Rattle.roots.specs.Roots.{IsRoot, root};
 

@@ -1,5 +1,7 @@
 // The word rules. (01: "Word rules, else alarm 9".) What a line shows by itself stands in `showing`.
 // What a G or M asks or forbids holds only where that word applies: those rules look at the applying words alone.
+#![tactic(auto)]
+
 ghost use Rattle.std.specs.Prelude.{◌≡◌, not, ◌&&◌, ◌-◌, ◌≤◌, eqb};
 ghost use Rattle.stands.specs.Stands.{none, is_taken};
 ghost use Rattle.block.specs.Slots.{slots, numbers_from, any_in};

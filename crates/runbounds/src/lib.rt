@@ -1,4 +1,6 @@
 // Whether a run that came from elsewhere is within its bounds: on the tape, and within what a run may do. What more a run is bound to is asked of it with the tape.
+#![tactic(auto)]
+
 ghost use Rattle.std.specs.Prelude.{◌≡◌, true, ℕ, ◌<◌, length, get_or};
 ghost use Rattle.ahead.specs.Ahead.{most_calls};
 ghost use Rattle.paused.specs.Kept.{nobody, Waits, Answers, Kept};

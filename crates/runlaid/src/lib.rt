@@ -1,4 +1,6 @@
 // Where a run stands, laid into the words that are lent. Their places stand in `runwords`, which takes a run back from them.
+#![tactic(auto)]
+
 ghost use Rattle.std.specs.Prelude.{◌≡◌, [], ◌∷◌, ℕ, ◌+◌, ◌<◌, ◌≤◌, length, get_or};
 ghost use Rattle.octets.specs.Bytes.{signed_of};
 ghost use Rattle.ahead.specs.Ahead.{most_calls};

@@ -1,5 +1,7 @@
 // The run of a program: its blocks one after the other, the calls in it, and the runs of a call, by two runners. (01: "Running a program runs its blocks, and a call block runs a program again".)
 // They call each other; a loop inside goes along the blocks, so that the real stack is never deeper than the calls of the program are.
+#![tactic(auto)]
+
 ghost use Rattle.std.specs.Prelude.{length};
 ghost use Rattle.taking.specs.Steps.{task_of};
 ghost use Rattle.runners.specs.Meets.{Begins, ProgramMeets, CallMeets};
@@ -9,14 +11,14 @@ use settings::Settings;
 use taking::Run;
 
 // How a program's run came to its end. An alarm has its number and its place.
-#[derive(Drop)]
+#[derive(Clone, Copy)]
 pub enum Ending {
     Returned,
     Ended,
     Stopped(u8, usize),
 }
 
-#[derive(Drop)]
+#[derive(Clone, Copy)]
 pub struct Outcome {
     pub ending: Ending,
     pub run: Run,

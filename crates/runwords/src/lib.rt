@@ -1,5 +1,7 @@
 // Words that a caller lends taken as where a run stands: each number has its place. (02, request 12: an engine "that keeps the run's state".) `runlaid` lays a run into them.
 // Nothing is refused here: any words give some run; whether it is within its bounds is asked of it (`runbounds`).
+#![tactic(auto)]
+
 ghost use Rattle.std.specs.Prelude.{◌≡◌, ◌<◌, ◌%◌, length};
 ghost use Rattle.octets.specs.Bytes.{signed_of};
 ghost use Rattle.ahead.specs.Ahead.{most_calls};

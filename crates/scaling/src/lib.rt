@@ -1,6 +1,8 @@
 // The cycles as their words give them: a cycle's D words and retract that count on a diameter are scaled here, and nowhere else.
 // (01, "G84": "d = 2 x D3 (D3 is per side)"; 02: "the X allowance is 2 x D0"; "G86": "2 x D3", "twice the retract", facing "tool width 2 x D5, overlap 200, depth piece D3, single retract".
 // A thread's depths are per side, and its cycle doubles them.)
+#![tactic(auto)]
+
 ghost use Rattle.std.specs.Prelude.{◌≡◌, ◌+◌, ◌<◌};
 ghost use Rattle.block.specs.Slots.{d_slot, code_in};
 ghost use Rattle.scaling.specs.Scaled.{is_facing, turning_of, empty_cuts, thread_of, groove_of, bore_of};
@@ -14,7 +16,7 @@ use threading::Thread;
 use turning::Turning;
 
 // Where the axes stand and where the block sends them, the feed in force, and the retract and the empty cuts of the settings.
-#[derive(Drop)]
+#[derive(Clone, Copy)]
 pub struct Sending {
     pub x: i32,
     pub z: i32,

@@ -1,5 +1,7 @@
 // Reading a tape from its first program line to the end of reading, in one pass. The lent table of places is filled in the same pass, and a repeated number is found in it.
 // What comes of it stands in `reading`.
+#![tactic(auto)]
+
 ghost use Rattle.std.specs.Prelude.{◌≡◌, ◌<◌, ◌≤◌, length};
 ghost use Rattle.tape.specs.Lines.{lines};
 ghost use Rattle.reading.specs.Reading.{longest_tape, nothing_read};

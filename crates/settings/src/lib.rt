@@ -1,6 +1,8 @@
 // What a control is set to: its settings and soft limits, what alarm 1 asks of them and of the offset table, and whether a place lies outside the limits (alarm 18).
 // (01: "Offset table: 208 signed numbers"; "Settings: main program number; lowest subroutine number ..; retract ..; start position; soft limits"; of alarm 1 "table not 208 numbers, a number out of range,
 // lowest limit above highest, start outside limits, lowest subroutine above 255, main above 6999 or from lowest subroutine to 255".)
+#![tactic(auto)]
+
 ghost use Rattle.std.specs.Prelude.{◌≡◌};
 ghost use Rattle.settings.specs.Wrong.{table_wrong, span_wrong, numbers_wrong, settings_wrong};
 ghost use Rattle.settings.specs.Points.{with_points};
@@ -23,7 +25,7 @@ pub const HIGHEST_SUBROUTINE: u32 = 255;
 
 // (01: "Settings: main program number; lowest subroutine number ..; retract ..; start position; soft limits X and Z, lowest and highest"; 02: "Empty cuts repeat the last pass D4
 // times, else as a new setting says"; "a setting turns missing points into an alarm for X Z U W".)
-#[derive(Drop)]
+#[derive(Clone, Copy)]
 pub struct Settings {
     pub main: u32,
     pub lowest_subroutine: u32,
@@ -91,13 +93,13 @@ pub fn with_points(set: Settings, points: bool) -> Settings
     set
 }
 
-#[derive(Drop)]
+#[derive(Clone, Copy)]
 pub struct Span {
     pub lowest: i32,
     pub highest: i32,
 }
 
-#[derive(Drop)]
+#[derive(Clone, Copy)]
 pub struct Limits {
     pub x: Span,
     pub z: Span,

@@ -1,5 +1,7 @@
 // What a line shows by itself: alarms 7 and 5, how it begins, whether a number of it lacks its point (alarm 21), and whether it breaks a word rule (alarm 9).
 // (01: "then lines from the front, each 7, 5, 6, 8, 9". 02 takes 8 out, and puts 21 behind 5.) What a line is among others is judged where the tape is read.
+#![tactic(auto)]
+
 ghost use Rattle.std.specs.Prelude.{◌≡◌, ◌≤◌, length};
 ghost use Rattle.addresses.specs.Words.{words_from};
 ghost use Rattle.block.specs.Words.{longest_line, no_words, gather, reading};
@@ -9,7 +11,7 @@ use block::{Block, Head, LineStart};
 
 // What a line shows by itself: alarm 7 or 5 or 0, and where that is 0, how it begins, whether one of its words lacks its point, whether it breaks a word rule, and
 // whether M30 is the last word behind its first. Ask the alarm first: where it is not 0 the other fields say nothing.
-#[derive(Drop)]
+#[derive(Clone, Copy)]
 pub struct Judged {
     pub alarm: u8,
     pub head: Head,

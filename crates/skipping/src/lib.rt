@@ -1,4 +1,6 @@
 // The blocks that are told by their text are passed, up to a step that is not one of these. (02, request 12: the engine that hands out one record at a time.)
+#![tactic(auto)]
+
 ghost use Rattle.moves.specs.Form.{record_limit};
 ghost use Rattle.taking.specs.Hands.{Able};
 ghost use Rattle.skipping.specs.Passed.{PassMeets};
@@ -9,7 +11,7 @@ use taking::quiet::Met;
 use taking::{Hand, Opened, Run};
 
 // A step, and where it was taken.
-#[derive(Drop)]
+#[derive(Clone, Copy)]
 pub struct Passed {
     pub frame: Frame,
     pub run: Run,

@@ -1,13 +1,15 @@
 // What is due of a block that is opened: its plan, the records that are no cycle's, and what is due behind each. Which records a block has stands in `writing`; `opening` opens a block, and `handing` hands its records out.
 // (01: "Records of a block, in order: speed if S, tool if T, M of group 0, M of group 3, motion or dwell, then M00 or M30." 02, of an arc: "a following record, kind 10, carries the centre".)
 // A cycle's records come from the cycle's own cursor; each of the others is a single one, made when it is due. A new cycle is one arm in each function that matches on what is due.
+#![tactic(auto)]
+
 ghost use Rattle.std.specs.Prelude.{◌≡◌};
 ghost use Rattle.stages.specs.Cursor.{single_of, from_speed, from_tool, from_spindle, from_coolant, from_centre, behind_at, deed_row, stage_behind, Planned, Follows};
 
 use moves::Record;
 
 // The records that are no cycle's, in their order, and none. `Deed` is a dwell, a straight move or the end of an arc, `Centre` the arc's centre.
-#[derive(Drop)]
+#[derive(Clone, Copy)]
 pub enum Stage {
     Speed,
     Tool,
@@ -20,7 +22,7 @@ pub enum Stage {
 }
 
 // What is due: a record that is no cycle's, or the next of a cycle.
-#[derive(Drop)]
+#[derive(Clone, Copy)]
 pub enum Due {
     Turning(passes::Cursor),
     Threading(threads::Cursor),
@@ -30,7 +32,7 @@ pub enum Due {
 }
 
 // The records of a deed that is no cycle: its first, and the centre that follows it where the deed is an arc. Where none follows, no one asks for a centre.
-#[derive(Drop)]
+#[derive(Clone, Copy)]
 pub struct Own {
     pub goes: Record,
     pub centre: Record,
@@ -39,7 +41,7 @@ pub struct Own {
 
 // What a block writes, as it stays while the block is written: the words that give a record, where the axes stand before the deed and behind it, the deed's records where it is no cycle, and
 // what is due once the words before the deed have given theirs.
-#[derive(Drop)]
+#[derive(Clone, Copy)]
 pub struct Plan {
     pub x: i32,
     pub z: i32,
@@ -60,7 +62,7 @@ pub struct Plan {
 }
 
 // What is left of a block.
-#[derive(Drop)]
+#[derive(Clone, Copy)]
 pub struct Cursor {
     pub plan: Plan,
     pub due: Due,

@@ -1,13 +1,15 @@
 // What a motion asks of the other words of its block, and what it forbids: a row for each. (01: "no G04 with G25 or G27; .. G04 takes no path word; D4 stands with G04 (missing: a dwell
 // of 0); D0 D2 D3 with G84; D3 D4 D5 with G86; no other P or D. G84 and G86 need one word of each axis, G86 also D5." 02, G85: "D words but D3 D4 D6 D7, an axis
 // missing or D7 above 7 in 9"; G87 and G88: "X or U, no Z or W, or D words but D3 to D6 in 9"; arcs: "I or K beside another group 0 word in 9".)
+#![tactic(auto)]
+
 ghost use Rattle.std.specs.Prelude.{◌≡◌};
 ghost use Rattle.stands.specs.Stands.{stands_freely, straight_with, cuts_with, drills_with, stands_with, stands_by};
 
 use codes::{Code, Meaning, Motion};
 
 // Which path words may stand, and which must: X or U, and Z or W.
-#[derive(Drop)]
+#[derive(Clone, Copy)]
 pub enum Path {
     Any,
     Forbidden,
@@ -15,7 +17,7 @@ pub enum Path {
     ZAlone,
 }
 
-#[derive(Drop)]
+#[derive(Clone, Copy)]
 pub struct Stands {
     // the D words that it takes, by their indexes, NONE where there are no more
     pub takes: [usize; 4],

@@ -1,5 +1,7 @@
 // A run is started, for the engine that hands out one record at a time: the tape is judged and read as the list engine does it, and the run stands before the main program's first block.
 // (02, request 12: "a new start clears it": nothing of a run before is handed in.)
+#![tactic(auto)]
+
 ghost use Rattle.std.specs.Prelude.{◌≡◌, ◌≤◌, length, take};
 ghost use Rattle.places.specs.Places.{Row, program_in};
 ghost use Rattle.interpreter.specs.Answers.{places_of};

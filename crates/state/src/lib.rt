@@ -1,6 +1,8 @@
 // The machine between two blocks: the modal words, what holds from one block to the next and what a block's own words make of it, a function for each: kept motion, G9x, shifts, correction, F, the due G00.
 // A block's G and T words act before its move, and hold for its own records. (01: "Running a block".) Offsets and targets stand in `targets`, what a block asks of the runner in `requests`.
 // What a block then does, and its alarms, are known to the crates built on these.
+#![tactic(auto)]
+
 ghost use Rattle.std.specs.Prelude.{◌≡◌};
 ghost use Rattle.state.specs.Modal.{at_start, block_motion, correction_after, feed_after, due_after, settled};
 
@@ -9,7 +11,7 @@ use block::{Block, code_in, g_in};
 
 // The machine between two blocks. The shifts are the numbers of those in force, 0 for none, as the correction number is; F is 0 where none was given; `rapid_due` is whether the next
 // traverse must be a G00.
-#[derive(Drop)]
+#[derive(Clone, Copy)]
 pub struct State {
     pub motion: Kept,
     pub g96: bool,

@@ -1,5 +1,7 @@
 // Whether a machine's state that comes back from a caller is one that a block can run on: a caller may have changed it.
 // Every state from which a run starts, or which a block leaves behind, passes.
+#![tactic(auto)]
+
 ghost use Rattle.std.specs.Prelude.{◌≡◌, true};
 ghost use Rattle.acts.specs.Acting.{keep};
 ghost use Rattle.acts.specs.declared.Kept.TheVariants.{Nothing};

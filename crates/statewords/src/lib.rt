@@ -1,5 +1,7 @@
 // THE STATE OF AN ENGINE IN WORDS that the caller lends, in three parts: what is due of the present block, the block's plan, and where the run goes on behind it. (02, request 12.)
 // Each part is put by itself, so that an ask for the next record of a block touches the first alone.
+#![tactic(auto)]
+
 ghost use Rattle.std.specs.Prelude.{◌≡◌, length};
 ghost use Rattle.taking.specs.declared.Hand.TheVariants.{Nothing};
 ghost use Rattle.resumable.specs.Kept.{kept};

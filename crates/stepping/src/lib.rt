@@ -2,6 +2,8 @@
 // It has no list, no buffer and no recursion. What it hands out of a block comes from the block's own cursor, as what the list engine writes does; what it hands out in all is held to the list
 // engine's records by the laws of `resuming`.
 // A turn: the blocks up to the next one that has words, that one, and where the run goes on behind it.
+#![tactic(auto)]
+
 ghost use Rattle.std.specs.Prelude.{◌≡◌, length};
 ghost use Rattle.paused.specs.Kept.{Kept};
 ghost use Rattle.paused.specs.declared.Phase.TheVariants.{Running};
@@ -15,7 +17,7 @@ use settings::Settings;
 use taking::{Hand, Run};
 
 // What a turn has in hand, and where the run goes on once that is handed out.
-#[derive(Drop)]
+#[derive(Clone, Copy)]
 pub struct Turned {
     pub hand: Hand,
     pub going: Going,

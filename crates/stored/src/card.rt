@@ -3,14 +3,14 @@
 ghost use Rattle.std.specs.Prelude.{◌≤◌, length};
 
 // A line of three backticks: where it begins, and where the line behind it begins; both are the page's end where there is none.
-#[derive(Drop)]
+#[derive(Clone, Copy)]
 struct Mark {
     at: usize,
     behind: usize,
 }
 
 // What stands between two such lines: where it begins and ends, and where the page goes on.
-#[derive(Drop)]
+#[derive(Clone, Copy)]
 pub struct Fence {
     pub from: usize,
     pub stop: usize,

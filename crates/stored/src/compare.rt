@@ -6,7 +6,7 @@ ghost use Rattle.stored.specs.Texts.{FromOne};
 use numbers::{Number, NumberForm};
 
 // The first line of the listing that is not as it should be counts from 1. A case whose settings cannot be read compares nothing.
-#[derive(Drop)]
+#[derive(Clone, Copy)]
 pub enum Verdict {
     Agrees,
     Differs(usize),
@@ -14,7 +14,7 @@ pub enum Verdict {
 }
 
 // A line of the listing that is wanted: where it begins and ends, where the next line begins, and how often this one stands yet.
-#[derive(Drop)]
+#[derive(Clone, Copy)]
 struct Wanted {
     from: usize,
     stop: usize,

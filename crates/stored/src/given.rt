@@ -7,7 +7,7 @@ ghost use Rattle.stored.specs.Given.{usual};
 use numbers::{Number, NumberForm};
 
 // Where the lines end that begin with `=`, and whether each could be read.
-#[derive(Drop)]
+#[derive(Clone, Copy)]
 pub struct Start {
     pub lawful: bool,
     pub at: usize,

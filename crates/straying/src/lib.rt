@@ -1,4 +1,6 @@
 // Whether an arc keeps to the limits: its end, and each quadrant point that it crosses, on the circle through its start.
+#![tactic(auto)]
+
 ghost use Rattle.std.specs.Prelude.{◌≡◌, ◌≤◌, nat_abs, neg_ℤ};
 ghost use Rattle.straying.specs.Straying.{spans, root_in, holds, strays_at, strays_somewhere, straying};
 ghost use Rattle.arrows.specs.Known.{greatest_part, Sized, both};

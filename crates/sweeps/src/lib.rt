@@ -1,4 +1,6 @@
 // How far an arc goes, and whether it crosses a quadrant point between its ends.
+#![tactic(auto)]
+
 ghost use Rattle.std.specs.Prelude.{◌≡◌, pos};
 ghost use Rattle.std.specs.Int.Signed.{lt_z};
 ghost use Rattle.arrows.specs.Arrows.{cross, ahead};
@@ -9,7 +11,7 @@ ghost use Rattle.arcs.specs.Known.{InReach};
 use arcs::Arc;
 use arrows::Arrow;
 
-#[derive(Drop)]
+#[derive(Clone, Copy)]
 pub enum Sweep {
     Full,
     // an end on the start's ray
@@ -20,7 +22,7 @@ pub enum Sweep {
 }
 
 // An arc as it goes around its centre.
-#[derive(Drop)]
+#[derive(Clone, Copy)]
 pub struct Course {
     pub clockwise: bool,
     pub sweep: Sweep,
@@ -29,7 +31,7 @@ pub struct Course {
 }
 
 // The four ways from the centre, seen with Z to the right and X up.
-#[derive(Drop)]
+#[derive(Clone, Copy)]
 pub enum Quadrant {
     East,
     North,

@@ -2,6 +2,8 @@
 // program/slot/place, or `=` where the entry is as it came. Each is also run one move at a time (request 12), and a line says so where a move or the answer is another than the list's, or where words that cannot be asked
 // are not refused.
 // The file `stdin` holds them: a name, LF, lines of settings (`=held 3` lends a table of three entries), the tape, and byte 30. `stdout` holds what 01 and 02 say of each.
+#![tactic(auto)]
+
 use answers::Answer;
 use libc::{STDIN_FILENO, STDOUT_FILENO};
 use stored::compare::Verdict;

@@ -2,6 +2,8 @@
 // (01, "Alarms and their order": "then blocks as run: 13, 14, 10, 11, 12, 15, 16, 17, 19, 18, 20".) Whoever takes the step writes its records, or hands them out one at a time.
 // A block that has no words, or is a jump alone, is told by its text and done in quiet.rt; every other is opened by its words, in `wording`. Whoever writes the records asks for the two himself, so
 // that nothing is built for a block that has none.
+#![tactic(auto)]
+
 pub mod quiet;
 
 ghost use Rattle.std.specs.Prelude.{◌≡◌, ◌<◌};
@@ -70,7 +72,7 @@ pub fn onto(frame: Frame, at: usize) -> Frame
 }
 
 // A run between two blocks: the machine's state, how many blocks may still be begun, and how many records are written.
-#[derive(Drop)]
+#[derive(Clone, Copy)]
 pub struct Run {
     pub state: State,
     pub blocks_left: u32,
@@ -78,7 +80,7 @@ pub struct Run {
 }
 
 // What came of a step: where the run goes on, the run after it, and the place of the line behind the block.
-#[derive(Drop)]
+#[derive(Clone, Copy)]
 pub struct StepDone {
     pub onward: Onward,
     pub run: Run,
@@ -86,14 +88,14 @@ pub struct StepDone {
 }
 
 // What a block that was opened has to hand out: nothing, or its records, by its cursor, and where they come from.
-#[derive(Drop)]
+#[derive(Clone, Copy)]
 pub enum Hand {
     Nothing,
     Block(Cursor, Origin),
 }
 
 // A step that was taken: what came of it, and what its block has to hand out. The run's count has the records in hand.
-#[derive(Drop)]
+#[derive(Clone, Copy)]
 pub struct Opened {
     pub done: StepDone,
     pub hand: Hand,

@@ -13,7 +13,7 @@ use settings::Settings;
 
 // A step that is taken without a block's words: the program ends before a block; a block has no words; or it is a jump alone, to the block of a number. A block has its place, and that of the line
 // behind it.
-#[derive(Drop)]
+#[derive(Clone, Copy)]
 pub enum Quiet {
     Ended,
     Bare(usize, usize),
@@ -21,7 +21,7 @@ pub enum Quiet {
 }
 
 // The next block of a program, as it is met: told by its text, or a line whose words are to be put together.
-#[derive(Drop)]
+#[derive(Clone, Copy)]
 pub enum Met {
     Known(Quiet),
     Words(BlockAt),

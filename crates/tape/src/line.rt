@@ -4,14 +4,14 @@ ghost use Rattle.std.specs.Prelude.{◌≡◌, false, ◌+◌, ◌≤◌, length
 ghost use Rattle.tape.specs.Lines.{seek_from, is_line_feed, opens_tape, stretch, Neither, line_at, LineIn, gap_of, GapIn, Closed};
 
 // A line: where its text ends, and where the next line begins.
-#[derive(Drop)]
+#[derive(Clone, Copy)]
 pub struct Line {
     pub stop: usize,
     pub after: usize,
 }
 
 // Where the next word begins or the line ends, or that a comment is open or holds a CR.
-#[derive(Drop)]
+#[derive(Clone, Copy)]
 pub enum Gap {
     At(usize),
     Fault,

@@ -1,5 +1,7 @@
 // Offsets and targets: where a block's path words send the axes. (01: "Offset = shift of group 3 + shift of group 5 + tool correction"; "Target of X or Z = word + offset. Target of U
 // or W = present machine position + word (U doubled). An axis without a word stays at its machine position".)
+#![tactic(auto)]
+
 ghost use Rattle.std.specs.Prelude.{◌≡◌, ◌≤◌};
 ghost use Rattle.targets.specs.Target.{pair_of, correction_pair, offset_of, target_x, target_z};
 ghost use Rattle.settings.specs.Known.{Table};
@@ -10,7 +12,7 @@ use state::State;
 use whole::position::{Placed, Position};
 
 // A pair of the offset table.
-#[derive(Drop)]
+#[derive(Clone, Copy)]
 pub struct Pair {
     pub x: i32,
     pub z: i32,

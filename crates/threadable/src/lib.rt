@@ -1,5 +1,7 @@
 // Whether a threading cycle that is opened can go on. Every cursor that `threads` made can; one that comes back from a caller who kept it may have been changed,
 // and is asked here before its next record is.
+#![tactic(auto)]
+
 ghost use Rattle.std.specs.Prelude.{◌≡◌, true};
 ghost use Rattle.threads.specs.Cursor.{Sound};
 

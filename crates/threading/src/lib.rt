@@ -1,6 +1,8 @@
 // The threading cycle G85, as its block gives it: what it refuses (alarm 19), where its moves reach (18), how many records it has (20), the records, and what all its passes share. (02, request 1.)
 // Longitudinal and facing are one cycle with the axes exchanged: it goes in along `infeed` and cuts along `path`.
 // No function here opens the cycle: each costs the same for one cut and for a thousand million. `threads` opens it.
+#![tactic(auto)]
+
 ghost use Rattle.std.specs.Prelude.{◌≡◌, false, ◌≤◌, length};
 ghost use Rattle.threading.specs.Threading.{pass_for, wide, whole_depth, bottom, crest, many_cuts, crest_beyond, wrong, threading, Told};
 ghost use Rattle.axes.specs.Limits.{any_outside};
@@ -11,7 +13,7 @@ use axes::Axis;
 use depths::Rule;
 use settings::Limits;
 
-#[derive(Drop)]
+#[derive(Clone, Copy)]
 pub struct Pass {
     pub facing: bool,
     pub pitch: u32,
@@ -36,7 +38,7 @@ pub fn pass_of(t: Thread) -> Pass
 
 // `nominal` says that the infeed's target is the crest and not the bottom; `d6` is the depth per side, `empty` the number of empty cuts. A thread leaves no allowance:
 // that of its axes is not asked for.
-#[derive(Drop)]
+#[derive(Clone, Copy)]
 pub struct Thread {
     pub facing: bool,
     pub infeed: Axis,

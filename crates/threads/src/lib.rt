@@ -1,5 +1,7 @@
 // A thread that is opened: it hands out its records one after the other. What a thread is stands in `threading`, its depths in `depths`.
 // Each pass line is made from the one before it and what the next cut takes; a constant cut has no product and no quotient.
+#![tactic(auto)]
+
 ghost use Rattle.std.specs.Prelude.{◌≡◌, true, false, ◌<◌};
 ghost use Rattle.cuts.specs.Cuts as cut;{
 ghost use Rattle.threading.specs.Threading.{wrong, threading, Told};
@@ -12,7 +14,7 @@ use threading::{Pass, Thread};
 use whole::Side;
 
 // Which record of a pass comes next. 02: "A pass is rapid in, thread, rapid out, rapid back."
-#[derive(Drop)]
+#[derive(Clone, Copy)]
 pub enum Stage {
     In,
     Cut,
@@ -21,7 +23,7 @@ pub enum Stage {
 }
 
 // `line` and `depth` are those of the present pass, and before the first pass those of the crest; `cuts` and `empty` cuts are left behind it.
-#[derive(Drop)]
+#[derive(Clone, Copy)]
 pub struct Cursor {
     pub pass: Pass,
     pub side: Side,
@@ -32,7 +34,7 @@ pub struct Cursor {
     pub stage: Stage,
 }
 
-#[derive(Drop)]
+#[derive(Clone, Copy)]
 pub struct Handed {
     pub record: Record,
     pub rest: Cursor,

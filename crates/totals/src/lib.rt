@@ -1,4 +1,6 @@
 // What the pieces that are left of a division add up to, whoever made them. It costs the same for one piece and for thousands of millions: none is handed out for it.
+#![tactic(auto)]
+
 ghost use Rattle.std.specs.Prelude.{◌≡◌, min};
 ghost use Rattle.division.specs.Division.{sum};
 ghost use Rattle.division.specs.Carried.{row_of};

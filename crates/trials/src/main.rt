@@ -1,5 +1,7 @@
 // Trials of blocks: each is run from the state at the start, and what came of it is written: its name, a line for each record, and then `next ..`, what the last
 // block asks of the runner, or `ALARM n`. The file `stdin` holds them: a name, LF, how many records have room, LF, the blocks, and byte 30. `stdout` holds what 01 says of each.
+#![tactic(auto)]
+
 ghost use Rattle.std.specs.Prelude.{◌+◌, ◌≤◌, length};
 ghost use Rattle.moves.specs.Form.{header_size, record_start, record_size};
 

@@ -1,5 +1,7 @@
 // The blocks of a trial, run one after the other with the state and the count of records carried on, until one is refused.
 // What a block asks of the runner is not done: the next line is run, so that a trial shows what each block does by itself.
+#![tactic(auto)]
+
 ghost use Rattle.std.specs.Prelude.{◌≡◌, ◌≤◌, length};
 ghost use Rattle.moves.specs.Form.{header_size, room_of};
 ghost use Rattle.settings.specs.Known.{Table};
@@ -13,7 +15,7 @@ use requests::Request;
 use state::State;
 
 // What came of a block: its alarm, 0 for none, what it asks of the runner, and the state and the count of records after it.
-#[derive(Drop)]
+#[derive(Clone, Copy)]
 pub struct Tried {
     pub alarm: u8,
     pub next: Request,
@@ -22,7 +24,7 @@ pub struct Tried {
 }
 
 // What came of a line: it cannot be read as a block, or its block was run.
-#[derive(Drop)]
+#[derive(Clone, Copy)]
 pub enum Came {
     Unreadable,
     Ran(Tried),

@@ -1,6 +1,8 @@
 // The turning cycle G84, as its block gives it: its lengths (alarm 19), where its moves reach (18), how many records it has (20), the records, and what all its passes share. (01: "G84".)
 // Longitudinal and facing are one cycle with the axes exchanged: it goes in along `infeed` and cuts along `path`.
 // No function here opens the cycle: each costs the same for one pass and for millions. `passes` opens it.
+#![tactic(auto)]
+
 ghost use Rattle.std.specs.Prelude.{◌≡◌, false, ◌<◌, length};
 ghost use Rattle.axes.specs.Axis.{net, allowance_line};
 ghost use Rattle.axes.specs.Limits.{any_outside};
@@ -10,7 +12,7 @@ use axes::Axis;
 use settings::Limits;
 
 // `division` is the greatest pass on the infeed axis, 0 for one pass; `f` and `g95` are those of its feeds.
-#[derive(Drop)]
+#[derive(Clone, Copy)]
 pub struct Turning {
     pub facing: bool,
     pub infeed: Axis,
@@ -74,7 +76,7 @@ pub fn ends_outside(c: Turning, l: Limits) -> bool
     at_start | axes::limits::is_outside_to(l, facing, last, end)
 }
 
-#[derive(Drop)]
+#[derive(Clone, Copy)]
 pub struct Pass {
     pub facing: bool,
     pub f: u32,

@@ -1,5 +1,7 @@
 // A block, judged: its words act, its deed is worked out, and its alarm is asked for, in the paper's order 15, 16, 17, 19, 18, 20. Nothing is written, and no buffer is lent.
 // (01: "A block's own G and T words act before its move"; "then blocks as run: .. 15, 16, 17, 19, 18, 20".)
+#![tactic(auto)]
+
 ghost use Rattle.std.specs.Prelude.{◌≡◌};
 ghost use Rattle.block.specs.Worded.{Worded};
 ghost use Rattle.state.specs.Modal.{settled};
@@ -17,7 +19,7 @@ use settings::Settings;
 use state::State;
 
 // A block that may be done: the state that its words have settled, its deed, and how many records the deed has.
-#[derive(Drop)]
+#[derive(Clone, Copy)]
 pub struct Going {
     pub settled: State,
     pub deed: Deed,
@@ -25,7 +27,7 @@ pub struct Going {
 }
 
 // A refusal is its alarm's number.
-#[derive(Drop)]
+#[derive(Clone, Copy)]
 pub enum Verdict {
     Refused(u8),
     Goes(Going),

@@ -1,6 +1,8 @@
 // Whole numbers: what every other crate uses of numbers. Of lathes only the position type knows, and that its X is a diameter. Numbers as bytes stand in `octets`.
 // Contracts speak of ℕ and ℤ: those of position.rt by the definitions of specs/Position.antt, and those here by specs/Signed.antt.
 // Here are signed numbers around zero: how far apart two of them are, on which side one lies of another, and a step to a side. One rule serves both axes and both directions.
+#![tactic(auto)]
+
 pub mod position;
 
 ghost use Rattle.std.specs.Prelude.{◌≡◌, ◌+ℤ◌, ◌-ℤ◌, nat_abs};
@@ -8,7 +10,7 @@ ghost use Rattle.std.specs.Int.{w32};
 ghost use Rattle.std.proofs.Common.{SFits};
 ghost use Rattle.whole.specs.Signed.{side_of, along};
 
-#[derive(Drop)]
+#[derive(Clone, Copy)]
 pub enum Side {
     Minus,
     Zero,

@@ -3,12 +3,12 @@
 ghost use Rattle.std.specs.Prelude.{◌≡◌, pos, ◌+ℤ◌, ◌*ℤ◌};
 ghost use Rattle.whole.specs.Position.{in_table, placed};
 
-#[derive(Drop)]
+#[derive(Clone, Copy)]
 pub struct Position {
     pub um: i32,
 }
 
-#[derive(Drop)]
+#[derive(Clone, Copy)]
 pub enum Placed {
     At(Position),
     Outside,

@@ -1,4 +1,6 @@
 // A block that is opened by its words: alarms 13, 14, 10, 11 and 12, and then those of the block itself.
+#![tactic(auto)]
+
 ghost use Rattle.std.specs.Prelude.{◌≡◌, ◌+◌, ◌≤◌, ◌<◌, length, take};
 ghost use Rattle.places.specs.Places.{Row};
 ghost use Rattle.moves.specs.Form.{record_limit, stamped};

@@ -1,5 +1,7 @@
 // The records of a block in their order, how many they are, and the state after it. (01: "Records of a block, in order: speed if S, tool if T, M of group 0, M of group 3, motion or dwell, then
 // M00 or M30. M17 gives none.") `handing` hands them out one after the other, and `putting` writes them.
+#![tactic(auto)]
+
 ghost use Rattle.std.specs.Prelude.{◌≡◌, ◌≤◌};
 ghost use Rattle.writing.specs.Writes.{number_if, moved, done, stops, other_count};
 
