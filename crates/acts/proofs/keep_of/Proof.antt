@@ -7,75 +7,75 @@ use borrow.Author.Rules.{rules}
 use Rattle.acts.proofs.keep_of.Statement.{statement}
 use Rattle.acts.proofs.keep_of.Tie as tie
 
-returns : tie.Need-returns
+returns : tie.Need-returns-in-Nothing
 unfolding keep
-returns c = keep_by c.before.before.args.before c.enum_told.given.1
+returns c = keep_by c.args.before c.in-Nothing.is
 
-returns_2 : tie.Need-returns-2
+returns_2 : tie.Need-returns-in-Rapid
 unfolding keep
 returns_2 c =
-    let s = c.before.before.before in
-    ap Of c.enum-told2.given.1 ∙ keep_by s.before.before.args.before (kept_is s.now.given.1 c.enum-told2.given.1)
+    let s = c in
+    ap Of c.in-Rapid.is ∙ keep_by s.args.before (kept_is s.now.given.1 c.in-Rapid.is)
 
-returns_3 : tie.Need-returns-3
+returns_3 : tie.Need-returns-in-Feed
 unfolding keep
 returns_3 c =
-    let s = c.before.before.before in
-    ap Of c.enum-told3.given.1 ∙ keep_by s.before.before.args.before (kept_is s.now.given.1 c.enum-told3.given.1)
+    let s = c in
+    ap Of c.in-Feed.is ∙ keep_by s.args.before (kept_is s.now.given.1 c.in-Feed.is)
 
-returns_4 : tie.Need-returns-4
+returns_4 : tie.Need-returns-in-Clockwise
 unfolding keep
 returns_4 c =
-    let s = c.before.before.before in
-    ap Of c.enum-told4.given.1 ∙ keep_by s.before.before.args.before (kept_is s.now.given.1 c.enum-told4.given.1)
+    let s = c in
+    ap Of c.in-Clockwise.is ∙ keep_by s.args.before (kept_is s.now.given.1 c.in-Clockwise.is)
 
-returns_5 : tie.Need-returns-5
+returns_5 : tie.Need-returns-in-Counterclockwise
 unfolding keep
 returns_5 c =
-    let s = c.before.before.before in
-    ap Of c.enum-told5.given.1 ∙ keep_by s.before.before.args.before (kept_is s.now.given.1 c.enum-told5.given.1)
+    let s = c in
+    ap Of c.in-Counterclockwise.is ∙ keep_by s.args.before (kept_is s.now.given.1 c.in-Counterclockwise.is)
 
-returns_6 : tie.Need-returns-6
+returns_6 : tie.Need-returns-in-Thread
 unfolding keep
 returns_6 c =
-    let s = c.before.before.before in
-    ap Of c.enum-told6.given.1 ∙ keep_by s.before.before.args.before (kept_is s.now.given.1 c.enum-told6.given.1)
+    let s = c in
+    ap Of c.in-Thread.is ∙ keep_by s.args.before (kept_is s.now.given.1 c.in-Thread.is)
 
-returns_7 : tie.Need-returns-7
+returns_7 : tie.Need-returns-in-Dwell
 unfolding keep
 returns_7 c =
-    let s = c.before.before.before in
-    keep_by s.before.before.args.before (kept_is s.now.given.1 c.enum-told7.given.1)
+    let s = c in
+    keep_by s.args.before (kept_is s.now.given.1 c.in-Dwell.is)
 
-returns_8 : tie.Need-returns-8
+returns_8 : tie.Need-returns-in-Turning
 unfolding keep
 returns_8 c =
-    let s = c.before.before.before in
-    keep_by s.before.before.args.before (kept_is s.now.given.1 c.enum-told8.given.1)
+    let s = c in
+    keep_by s.args.before (kept_is s.now.given.1 c.in-Turning.is)
 
-returns_9 : tie.Need-returns-9
+returns_9 : tie.Need-returns-in-Threading
 unfolding keep
 returns_9 c =
-    let s = c.before.before.before in
-    keep_by s.before.before.args.before (kept_is s.now.given.1 c.enum-told9.given.1)
+    let s = c in
+    keep_by s.args.before (kept_is s.now.given.1 c.in-Threading.is)
 
-returns_10 : tie.Need-returns-10
+returns_10 : tie.Need-returns-in-Grooving
 unfolding keep
 returns_10 c =
-    let s = c.before.before.before in
-    keep_by s.before.before.args.before (kept_is s.now.given.1 c.enum-told10.given.1)
+    let s = c in
+    keep_by s.args.before (kept_is s.now.given.1 c.in-Grooving.is)
 
-returns_11 : tie.Need-returns-11
+returns_11 : tie.Need-returns-in-ChipBreaking
 unfolding keep
 returns_11 c =
-    let s = c.before.before.before in
-    keep_by s.before.before.args.before (kept_is s.now.given.1 c.enum-told11.given.1)
+    let s = c in
+    keep_by s.args.before (kept_is s.now.given.1 c.in-ChipBreaking.is)
 
-returns_12 : tie.Need-returns-12
+returns_12 : tie.Need-returns-in-Redrawing
 unfolding keep
 returns_12 c =
-    let s = c.before.before.before in
-    keep_by s.before.before.args.before (kept_is s.now.given.1 c.enum-told12.given.1)
+    let s = c in
+    keep_by s.args.before (kept_is s.now.given.1 c.in-Redrawing.is)
 
 pub keep_of_spec : {M : Type 1} → statement M
 keep_of_spec =

@@ -13,31 +13,31 @@ use Rattle.acts.proofs.shift_by.Tie as tie
 by : {k l : Code} (before : ℕ) → k ≡ l → shift_by l before ≡ shift_by k before
 by before e = ap (λ (k : Code). shift_by k before) (sym e)
 
-enum_known_code : tie.Need-enum-known-code
+enum_known_code : tie.Need-enum_known-code
 enum_known_code c = search rules
 
-enum_known_meaning : tie.Need-enum-known-meaning
+enum_known_meaning : tie.Need-enum_known-meaning
 enum_known_meaning c = search rules
 
-enum_told : tie.Need-enum-told
+enum_told : tie.Need-enum_told-1
 enum_told c = search rules
 
-returns : tie.Need-returns
+returns : tie.Need-returns-in-Shift
 unfolding shift_by
 returns c =
-    let m = c.before in
-    let k = m.before.before.before in
-    by k.before.before.args.before (code_is k.code.given.1 m.meaning.given.1)
+    let m = c in
+    let k = m in
+    by k.args.before (code_is k.in-Of.is m.in-Shift.is)
 
-returns_2 : tie.Need-returns-2
+returns_2 : tie.Need-returns-in_default
 returns_2 c =
-    let k = c.before.before in
-    let before = k.before.before.args.before in
-    no_shift _ _ before c.match2.keys2 ∙ by before k.code.given.1
+    let k = c in
+    let before = k.args.before in
+    no_shift _ _ before c.in_default.in_default-own.keys2 ∙ by before k.in-Of.is
 
-returns_3 : tie.Need-returns-3
+returns_3 : tie.Need-returns-in-Unknown
 unfolding shift_by
-returns_3 c = by c.before.before.args.before c.enum_told.given.1
+returns_3 c = by c.args.before c.in-Unknown.is
 
 pub shift_by_spec : {M : Type 1} → statement M
 shift_by_spec =

@@ -6,102 +6,102 @@ use borrow.Author.Rules.{rules}
 use Rattle.codes.proofs.g_code.Statement.{statement}
 use Rattle.codes.proofs.g_code.Tie as tie
 
-sub_t33 : tie.Need-overflow-sub-t33
-sub_t33 c = past _ 53 c.before.if1.false (search rules)
+sub_t33 : tie.Need-overflow_sub-result
+sub_t33 c = past _ 53 c.in-54-to-55.if-n-lt53-own.false (search rules)
 
-add_t34 : tie.Need-overflow-add-t34
-add_t34 c = shift_a_fits _ c.if2.true
+add_t34 : tie.Need-overflow_add-result
+add_t34 c = shift_a_fits _ c.in-54-to-55.if-n-lt56-own.true
 
-sub_t36 : tie.Need-overflow-sub-t36
-sub_t36 c = past _ 56 c.before.if2.false (search rules)
+sub_t36 : tie.Need-overflow_sub-result-in-57-to-59
+sub_t36 c = past _ 56 c.in-57-to-59.if-n-lt56-own.false (search rules)
 
-add_t37 : tie.Need-overflow-add-t37
-add_t37 c = shift_b_fits _ c.if3.true
+add_t37 : tie.Need-overflow_add-result-in-57-to-59
+add_t37 c = shift_b_fits _ c.in-57-to-59.if-n-lt60-own.true
 
-returns : tie.Need-returns
+returns : tie.Need-returns-in-0
 unfolding g_code
-returns c = rw c.match.keys1
+returns c = rw c.in-0.is
 
-returns_2 : tie.Need-returns-2
+returns_2 : tie.Need-returns-in-1
 unfolding g_code
-returns_2 c = rw c.match.keys2
+returns_2 c = rw c.in-1.is
 
-returns_3 : tie.Need-returns-3
+returns_3 : tie.Need-returns-in-2
 unfolding g_code
-returns_3 c = rw c.match.keys3
+returns_3 c = rw c.in-2.is
 
-returns_4 : tie.Need-returns-4
+returns_4 : tie.Need-returns-in-3
 unfolding g_code
-returns_4 c = rw c.match.keys4
+returns_4 c = rw c.in-3.is
 
-returns_5 : tie.Need-returns-5
+returns_5 : tie.Need-returns-in-33
 unfolding g_code
-returns_5 c = rw c.match.keys5
+returns_5 c = rw c.in-33.is
 
-returns_6 : tie.Need-returns-6
+returns_6 : tie.Need-returns-in-4
 unfolding g_code
-returns_6 c = rw c.match.keys6
+returns_6 c = rw c.in-4.is
 
-returns_7 : tie.Need-returns-7
+returns_7 : tie.Need-returns-in-84
 unfolding g_code
-returns_7 c = rw c.match.keys7
+returns_7 c = rw c.in-84.is
 
-returns_8 : tie.Need-returns-8
+returns_8 : tie.Need-returns-in-85
 unfolding g_code
-returns_8 c = rw c.match.keys8
+returns_8 c = rw c.in-85.is
 
-returns_9 : tie.Need-returns-9
+returns_9 : tie.Need-returns-in-86
 unfolding g_code
-returns_9 c = rw c.match.keys9
+returns_9 c = rw c.in-86.is
 
-returns_10 : tie.Need-returns-10
+returns_10 : tie.Need-returns-in-87
 unfolding g_code
-returns_10 c = rw c.match.keys10
+returns_10 c = rw c.in-87.is
 
-returns_11 : tie.Need-returns-11
+returns_11 : tie.Need-returns-in-88
 unfolding g_code
-returns_11 c = rw c.match.keys11
+returns_11 c = rw c.in-88.is
 
-returns_12 : tie.Need-returns-12
+returns_12 : tie.Need-returns-in-53
 unfolding g_code
-returns_12 c = rw c.match.keys12
+returns_12 c = rw c.in-53.is
 
-returns_13 : tie.Need-returns-13
+returns_13 : tie.Need-returns-in-56
 unfolding g_code
-returns_13 c = rw c.match.keys13
+returns_13 c = rw c.in-56.is
 
-returns_14 : tie.Need-returns-14
+returns_14 : tie.Need-returns-in-25
 unfolding g_code
-returns_14 c = rw c.match.keys14
+returns_14 c = rw c.in-25.is
 
-returns_15 : tie.Need-returns-15
+returns_15 : tie.Need-returns-in-27
 unfolding g_code
-returns_15 c = rw c.match.keys15
+returns_15 c = rw c.in-27.is
 
-returns_16 : tie.Need-returns-16
+returns_16 : tie.Need-returns-in-71
 unfolding g_code
-returns_16 c = rw c.match.keys16
+returns_16 c = rw c.in-71.is
 
-returns_17 : tie.Need-returns-17
-returns_17 c = sym (shift_a _ c.before.if1.false c.if2.true (search rules))
+returns_17 : tie.Need-returns-in-54-to-55
+returns_17 c = sym (shift_a _ c.in-54-to-55.if-n-lt53-own.false c.in-54-to-55.if-n-lt56-own.true (search rules))
 
-returns_18 : tie.Need-returns-18
-returns_18 c = sym (shift_b _ c.before.if2.false c.if3.true (search rules))
+returns_18 : tie.Need-returns-in-57-to-59
+returns_18 c = sym (shift_b _ c.in-57-to-59.if-n-lt56-own.false c.in-57-to-59.if-n-lt60-own.true (search rules))
 
-returns_19 : tie.Need-returns-19
-returns_19 c = sym (revolution _ c.before.if4.false c.if5.true)
+returns_19 : tie.Need-returns-in-94-to-95
+returns_19 c = sym (revolution _ c.in-94-to-95.if-n-lt94-own.false c.in-94-to-95.if-n-lt96-own.true)
 
-returns_20 : tie.Need-returns-20
-returns_20 c = sym (cutting _ c.before.if5.false c.if6.true)
+returns_20 : tie.Need-returns-in-96-to-97
+returns_20 c = sym (cutting _ c.in-96-to-97.if-n-lt96-own.false c.in-96-to-97.if-n-lt98-own.true)
 
-returns_21 : tie.Need-returns-21
-returns_21 c = sym (none_low _ c.if1.true (search rules) (search rules) (search rules) (search rules) (search rules) (search rules) (search rules) (search rules))
+returns_21 : tie.Need-returns-in_default
+returns_21 c = sym (none_low _ c.in_default.if-n-lt53-own.true (search rules) (search rules) (search rules) (search rules) (search rules) (search rules) (search rules) (search rules))
 
-returns_22 : tie.Need-returns-22
-returns_22 c = sym (none_middle _ c.before.if3.false c.if4.true (search rules) (search rules) (search rules) (search rules) (search rules) (search rules))
+returns_22 : tie.Need-returns-in_default-2
+returns_22 c = sym (none_middle _ c.in_default.if-n-lt60-own.false c.in_default.if-n-lt94-own.true (search rules) (search rules) (search rules) (search rules) (search rules) (search rules))
 
-returns_23 : tie.Need-returns-23
-returns_23 c = sym (none_high _ c.if6.false)
+returns_23 : tie.Need-returns-in_default-3
+returns_23 c = sym (none_high _ c.in_default.if-n-lt98-own.false)
 
 pub g_code_spec : {M : Type 1} → statement M
 g_code_spec =

@@ -6,32 +6,32 @@ use borrow.Author.Rules.{rules}
 use Rattle.codes.proofs.m_code.Statement.{statement}
 use Rattle.codes.proofs.m_code.Tie as tie
 
-returns : tie.Need-returns
+returns : tie.Need-returns-in-0
 unfolding m_code
-returns c = rw c.match.keys1
+returns c = rw c.in-0.is
 
-returns_2 : tie.Need-returns-2
+returns_2 : tie.Need-returns-in-17
 unfolding m_code
-returns_2 c = rw c.match.keys2
+returns_2 c = rw c.in-17.is
 
-returns_3 : tie.Need-returns-3
+returns_3 : tie.Need-returns-in-30
 unfolding m_code
-returns_3 c = rw c.match.keys3
+returns_3 c = rw c.in-30.is
 
-returns_4 : tie.Need-returns-4
-returns_4 c = sym (spindle _ c.before.if1.false c.if2.true)
+returns_4 : tie.Need-returns-in-3-to-5
+returns_4 c = sym (spindle _ c.in-3-to-5.if-n-lt3-own.false c.in-3-to-5.if-n-lt6-own.true)
 
-returns_5 : tie.Need-returns-5
-returns_5 c = sym (coolant _ c.before.if3.false c.if4.true)
+returns_5 : tie.Need-returns-in-8-to-9
+returns_5 c = sym (coolant _ c.in-8-to-9.if-n-lt8-own.false c.in-8-to-9.if-n-lt10-own.true)
 
-returns_6 : tie.Need-returns-6
-returns_6 c = sym (m_low _ c.if1.true (search rules))
+returns_6 : tie.Need-returns-in_default
+returns_6 c = sym (m_low _ c.in_default.if-n-lt3-own.true (search rules))
 
-returns_7 : tie.Need-returns-7
-returns_7 c = sym (m_middle _ c.before.if2.false c.if3.true)
+returns_7 : tie.Need-returns-in_default-2
+returns_7 c = sym (m_middle _ c.in_default.if-n-lt6-own.false c.in_default.if-n-lt8-own.true)
 
-returns_8 : tie.Need-returns-8
-returns_8 c = sym (m_high _ c.if4.false (search rules) (search rules))
+returns_8 : tie.Need-returns-in_default-3
+returns_8 c = sym (m_high _ c.in_default.if-n-lt10-own.false (search rules) (search rules))
 
 pub m_code_spec : {M : Type 1} → statement M
 m_code_spec =

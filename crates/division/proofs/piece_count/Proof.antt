@@ -8,13 +8,13 @@ use Rattle.division.proofs.Divisions.{count_is}
 use Rattle.division.proofs.piece_count.Statement.{statement}
 use Rattle.division.proofs.piece_count.Tie as tie
 
-sub_result : tie.Need-overflow-sub-result
+sub_result : tie.Need-overflow_sub-result
 sub_result c = search rules
 
-div_result : tie.Need-nonzero-div-result
+div_result : tie.Need-nonzero_div-result
 div_result c = search rules
 
-add_result : tie.Need-overflow-add-result
+add_result : tie.Need-overflow_add-result
 add_result c = omega (arith, div-le_self (c.args.length - 1) c.args.greatest)
 
 returns : tie.Need-returns

@@ -21,54 +21,54 @@ run_of s at limit value n i e = record { is = sym (i.3 ∙ e); few = i.0; within
 abbrev decreases_loop : tie.decreases-loop
 decreases_loop part at limit value₀ n₀ value n = limit - n
 
-loop_holds : tie.Need-loop-init invariant_loop decreases_loop
-loop_holds c = (omega arith, omega arith, omega arith, let a = c.before.args in here_start a.part.now a.at a.limit)
+loop_holds : tie.Need-loop-n-init invariant_loop decreases_loop
+loop_holds c = (omega arith, omega arith, omega arith, let a = c.args in here_start a.part.now a.at a.limit)
 
-add_p : tie.Need-overflow-add-p invariant_loop decreases_loop
+add_p : tie.Need-overflow_add-p invariant_loop decreases_loop
 add_p c = omega arith
 
-returns : tie.Need-returns invariant_loop decreases_loop
-returns c = run_of _ _ _ _ _ c.before.loop.invariant (here_full _ _ _ _ _ c.if1.true)
+returns : tie.Need-returns-then-n-limit invariant_loop decreases_loop
+returns c = run_of _ _ _ _ _ c.loop-n.invariant (here_full _ _ _ _ _ c.if-n-limit.true)
 
-returns_2 : tie.Need-returns-2 invariant_loop decreases_loop
-returns_2 c = run_of _ _ _ _ _ c.before.before.loop.invariant (here_end _ _ _ _ _ c.if2.true)
+returns_2 : tie.Need-returns-then-p-part invariant_loop decreases_loop
+returns_2 c = run_of _ _ _ _ _ c.loop-n.invariant (here_end _ _ _ _ _ c.if-p-part.true)
 
-shared_slice_read_b : tie.Need-shared-slice-read-b invariant_loop decreases_loop
+shared_slice_read_b : tie.Need-bounds-part-p invariant_loop decreases_loop
 shared_slice_read_b c = omega arith
 
-returns_3 : tie.Need-returns-3 invariant_loop decreases_loop
+returns_3 : tie.Need-returns-then-b-lt48 invariant_loop decreases_loop
 returns_3 c =
-    let l = c.before.before.before.before.loop in
-    run_of _ _ _ _ _ l.invariant (here_stop _ _ _ _ _ c.before.before.if2.false (low_no _ c.if3.true))
+    let l = c.loop-n in
+    run_of _ _ _ _ _ l.invariant (here_stop _ _ _ _ _ c.if-p-part.false (low_no _ c.if-b-lt48.true))
 
-returns_4 : tie.Need-returns-4 invariant_loop decreases_loop
+returns_4 : tie.Need-returns-then-b-gt57 invariant_loop decreases_loop
 returns_4 c =
-    let l = c.before.before.before.before.before.loop in
-    run_of _ _ _ _ _ l.invariant (here_stop _ _ _ _ _ c.before.before.before.if2.false (high_no _ c.if4.true))
+    let l = c.loop-n in
+    run_of _ _ _ _ _ l.invariant (here_stop _ _ _ _ _ c.if-p-part.false (high_no _ c.if-b-gt57.true))
 
-mul_value : tie.Need-overflow-mul-value invariant_loop decreases_loop
+mul_value : tie.Need-overflow_mul-value invariant_loop decreases_loop
 mul_value c =
-    let l = c.before.before.before.before.before.loop in
+    let l = c.loop-n in
     omega (arith, ten_up {n = l.n} {m = 6} (omega arith))
 
-add_value : tie.Need-overflow-add-value invariant_loop decreases_loop
+add_value : tie.Need-overflow_add-value invariant_loop decreases_loop
 add_value c =
-    let l = c.before.before.before.before.before.before.loop in
+    let l = c.loop-n in
     omega (arith, ten_up {n = l.n} {m = 6} (omega arith))
 
-add_n : tie.Need-overflow-add-n invariant_loop decreases_loop
+add_n : tie.Need-overflow_add-n invariant_loop decreases_loop
 add_n c = omega arith
 
-loop_less : tie.Need-loop-smaller invariant_loop decreases_loop
+loop_less : tie.Need-loop-n-smaller invariant_loop decreases_loop
 loop_less c = omega arith
 
-loop_again : tie.Need-loop-preserved invariant_loop decreases_loop
+loop_again : tie.Need-loop-n-preserved invariant_loop decreases_loop
 loop_again c =
-    let l = c.before.before.before.before.before.before.loop in (
+    let l = c.loop-n in (
       omega arith,
       omega arith,
       omega (arith, ten_more l.n),
-      rw c.wide.ensures (l.invariant.3 ∙ here_more _ _ _ _ _ (omega arith) (omega arith) (digit_yes _ c.before.before.if3.false c.before.if4.false)),
+      rw c.wide.ensures (l.invariant.3 ∙ here_more _ _ _ _ _ (omega arith) (omega arith) (digit_yes _ c.if-b-lt48.false c.if-b-gt57.false)),
     )
 
 pub digit_run_spec : {M : Type 1} → statement M

@@ -11,17 +11,17 @@ use Rattle.numbers.proofs.Reading.{path_empty, sign_fits, path_signed}
 use Rattle.numbers.proofs.read_path.Statement.{statement}
 use Rattle.numbers.proofs.read_path.Tie as tie
 
-returns : tie.Need-returns
-returns c = sym (path_empty _ c.if1.true)
+returns : tie.Need-returns-then-part-eq0
+returns c = sym (path_empty _ c.if-part-eq0.true)
 
-read_unsigned_path_requires : tie.Need-read-unsigned-path-requires
-read_unsigned_path_requires c κs = let s = c.before.before.before.before.args.part.now in omega (arith, c.sign-size.ensures, sign_fits s (omega arith))
+read_unsigned_path_requires : tie.Need-read_unsigned_path-requires
+read_unsigned_path_requires c κs = let s = c.args.part.now in omega (arith, c.sign_size-at.ensures, sign_fits s (omega arith))
 
-returns_2 : tie.Need-returns-2
+returns_2 : tie.Need-returns
 returns_2 c =
-    let g = c.before in
-    let s = g.before.before.before.before.args.part.now in
-    c.read-unsigned-path.ensures ∙ ap (λ (n : ℕ). unsigned_path (eqb (get_or s 0 0) minus_sign) (drop n s)) g.sign-size.ensures ∙ path_signed s (omega arith)
+    let g = c in
+    let s = g.args.part.now in
+    c.read_unsigned_path.ensures ∙ ap (λ (n : ℕ). unsigned_path (eqb (get_or s 0 0) minus_sign) (drop n s)) g.sign_size-at.ensures ∙ path_signed s (omega arith)
 
 pub read_path_spec : {M : Type 1} → statement M
 read_path_spec =

@@ -6,14 +6,14 @@ use Rattle.octets.specs.Bytes.{signed_of}
 use Rattle.octets.proofs.i32_of_bytes.Statement.{statement}
 use Rattle.octets.proofs.i32_of_bytes.Tie as tie
 
-u32_of_bytes_requires : tie.Need-u32-of-bytes-requires
+u32_of_bytes_requires : tie.Need-u32_of_bytes-requires
 u32_of_bytes_requires c κs = search rules
 
-signed_of_requires : tie.Need-signed-of-requires
+signed_of_requires : tie.Need-signed_of-requires
 signed_of_requires c κs = search rules
 
 returns : tie.Need-returns
-returns c = to_z-of_z (sfits_of c.Signed-of.type-inv) ∙ c.Signed-of.ensures ∙ ap signed_of c.before.u32-of-bytes.ensures
+returns c = to_z-of_z (sfits_of c.signed_of.type_inv) ∙ c.signed_of.ensures ∙ ap signed_of c.u32_of_bytes.ensures
 
 pub i32_of_bytes_spec : {M : Type 1} → statement M
 i32_of_bytes_spec = tie.close (tie.spec u32_of_bytes_requires signed_of_requires returns)

@@ -6,28 +6,28 @@ use Rattle.octets.proofs.Laying.{eight_laid}
 use Rattle.octets.proofs.put_bytes.Statement.{statement}
 use Rattle.octets.proofs.put_bytes.Tie as tie
 
-slice_write_buf_2 : tie.Need-slice-write-buf-2
+slice_write_buf_2 : tie.Need-bounds-buf-at-2
 slice_write_buf_2 c = simp length-set (omega arith)
 
-slice_write_buf_3 : tie.Need-slice-write-buf-3
+slice_write_buf_3 : tie.Need-bounds-buf-at-3
 slice_write_buf_3 c = simp length-set (omega arith)
 
-slice_write_buf_4 : tie.Need-slice-write-buf-4
+slice_write_buf_4 : tie.Need-bounds-buf-at-4
 slice_write_buf_4 c = simp length-set (omega arith)
 
-slice_write_buf_5 : tie.Need-slice-write-buf-5
+slice_write_buf_5 : tie.Need-bounds-buf-at-5
 slice_write_buf_5 c = simp length-set (omega arith)
 
-slice_write_buf_6 : tie.Need-slice-write-buf-6
+slice_write_buf_6 : tie.Need-bounds-buf-at-6
 slice_write_buf_6 c = simp length-set (omega arith)
 
-slice_write_buf_7 : tie.Need-slice-write-buf-7
+slice_write_buf_7 : tie.Need-bounds-buf-at-7
 slice_write_buf_7 c = simp length-set (omega arith)
 
-slice_write_buf_8 : tie.Need-slice-write-buf-8
+slice_write_buf_8 : tie.Need-bounds-buf-at-8
 slice_write_buf_8 c = simp length-set (omega arith)
 
-same_length : tie.Need-same-length
+same_length : tie.Need-shape_of-buf
 same_length c = simp length-set
 
 returns : tie.Need-returns

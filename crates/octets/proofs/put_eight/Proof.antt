@@ -7,10 +7,10 @@ use Rattle.octets.proofs.put_eight.Tie as tie
 
 returns : tie.Need-returns
 returns c =
-    let put = c.before.before in
-    let made = put.before in
-    let s = made.before.before.before in
-    put.put-bytes.ensures ∙ ap (laid s.args.buf.now s.args.at) made.bytes-of-u64.ensures
+    let put = c in
+    let made = put in
+    let s = made in
+    put.put_bytes.ensures ∙ ap (laid s.args.buf.now s.args.at) made.bytes_of_u64.ensures
 
 pub put_eight_spec : {M : Type 1} → statement M
 put_eight_spec = tie.close (tie.spec (λ c κs. search rules) (λ c κs. search rules) (λ c. search rules) returns)

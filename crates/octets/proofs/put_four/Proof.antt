@@ -6,13 +6,13 @@ use Rattle.octets.proofs.Laying.{four_laid}
 use Rattle.octets.proofs.put_four.Statement.{statement}
 use Rattle.octets.proofs.put_four.Tie as tie
 
-slice_write_buf_2 : tie.Need-slice-write-buf-2
+slice_write_buf_2 : tie.Need-bounds-buf-at-2
 slice_write_buf_2 c = simp length-set (omega arith)
 
-slice_write_buf_3 : tie.Need-slice-write-buf-3
+slice_write_buf_3 : tie.Need-bounds-buf-at-3
 slice_write_buf_3 c = simp length-set (omega arith)
 
-slice_write_buf_4 : tie.Need-slice-write-buf-4
+slice_write_buf_4 : tie.Need-bounds-buf-at-4
 slice_write_buf_4 c = simp length-set (omega arith)
 
 returns : tie.Need-returns

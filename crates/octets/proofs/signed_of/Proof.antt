@@ -13,33 +13,33 @@ use borrow.Author.Rules.{rules}
 use Rattle.octets.proofs.signed_of.Statement.{statement}
 use Rattle.octets.proofs.signed_of.Tie as tie
 
-record Fit (c : tie.Else1) : Type 0 where
-  u : to_z w64 c.before.args.u ≡ pos c.before.args.u
-  wide : SFits w64 (pos c.before.args.u -ℤ pos 4294967296)
-  dif : SFits w32 (pos c.before.args.u -ℤ pos 4294967296)
+record Fit (c : tie.Else-u-lt2147483648) : Type 0 where
+  u : to_z w64 c.args.u ≡ pos c.args.u
+  wide : SFits w64 (pos c.args.u -ℤ pos 4294967296)
+  dif : SFits w32 (pos c.args.u -ℤ pos 4294967296)
 
-fit : (c : tie.Else1) → Fit c
-fit c = let d = sub_in (pos c.before.args.u) (pos 4294967296) in record { u = to_z_pos w64 (omega arith); wide = omega whole; dif = fits (omega whole) }
+fit : (c : tie.Else-u-lt2147483648) → Fit c
+fit c = let d = sub_in (pos c.args.u) (pos 4294967296) in record { u = to_z_pos w64 (omega arith); wide = omega whole; dif = fits (omega whole) }
 
-cast_result : tie.Need-overflow-cast-result
+cast_result : tie.Need-overflow_cast-result
 cast_result c = search rules
 
-cast_result_2 : tie.Need-overflow-cast-result-2
+cast_result_2 : tie.Need-overflow_cast-result-else-u-lt2147483648
 cast_result_2 c = search rules
 
-sub_result : tie.Need-overflow-sub-result
+sub_result : tie.Need-overflow_sub-result
 sub_result c = let f = fit c in search (rules, f.u)
 
-cast_result_3 : tie.Need-overflow-cast-result-3
+cast_result_3 : tie.Need-overflow_cast-result-else-u-lt2147483648-2
 cast_result_3 c = let f = fit c in search (rules, f.u)
 
-returns : tie.Need-returns
+returns : tie.Need-returns-then-u-lt2147483648
 unfolding signed_of
-returns c = simp (lt-ltb c.before.args.u (2 ^ 31) c.if1.true)
+returns c = simp (lt-ltb c.args.u (2 ^ 31) c.if-u-lt2147483648.true)
 
-returns_2 : tie.Need-returns-2
+returns_2 : tie.Need-returns-else-u-lt2147483648
 unfolding signed_of
-returns_2 c = let f = fit c in simp (le-ltb c.before.args.u (2 ^ 31) c.if1.false, f.u, to_z-of_z f.wide, to_z-of_z f.dif)
+returns_2 c = let f = fit c in simp (le-ltb c.args.u (2 ^ 31) c.if-u-lt2147483648.false, f.u, to_z-of_z f.wide, to_z-of_z f.dif)
 
 pub signed_of_spec : {M : Type 1} → statement M
 signed_of_spec =

@@ -34,33 +34,33 @@ natural : (v : ℤ) → SFits w32 v → lt_z v (pos 0) ≡ false → Natural v
 natural (pos n) f e = omega whole
 natural (negsuc n) f e = absurd (omega (whole, lt_false (negsuc n) (pos 0) e))
 
-then : (c : tie.Then1) → Negative c.before.args.v
-then c = negative c.before.args.v c.before.ranges.v (test_lt (held c.before.ranges.v) (num w32 (pos 0) tt) c.if1.true)
+then : (c : tie.Then-v-lt0) → Negative c.args.v
+then c = negative c.args.v c.ranges.v (test_lt (held c.ranges.v) (num w32 (pos 0) tt) c.if-v-lt0.true)
 
-else : (c : tie.Else1) → Natural c.before.args.v
-else c = natural c.before.args.v c.before.ranges.v (test_lt (held c.before.ranges.v) (num w32 (pos 0) tt) c.if1.false)
+else : (c : tie.Else-v-lt0) → Natural c.args.v
+else c = natural c.args.v c.ranges.v (test_lt (held c.ranges.v) (num w32 (pos 0) tt) c.if-v-lt0.false)
 
 -- the sum as the machine has it
-sum_of : (c : tie.Then1) → Holds w64 (of_z w64 (to_z w64 (of_z w64 (to_z w32 (of_z w32 c.before.args.v))) +ℤ to_z w64 (of_z w64 (pos 4294967296)))) (c.before.args.v +ℤ pos 4294967296)
-sum_of c = sum (cast (held c.before.ranges.v) w64 (then c).wide) (num w64 (pos 4294967296) tt) (then c).sum
+sum_of : (c : tie.Then-v-lt0) → Holds w64 (of_z w64 (to_z w64 (of_z w64 (to_z w32 (of_z w32 c.args.v))) +ℤ to_z w64 (of_z w64 (pos 4294967296)))) (c.args.v +ℤ pos 4294967296)
+sum_of c = sum (cast (held c.ranges.v) w64 (then c).wide) (num w64 (pos 4294967296) tt) (then c).sum
 
-cast_result : tie.Need-overflow-cast-result
-cast_result c = cast_need (held c.before.ranges.v) w64 (then c).wide
+cast_result : tie.Need-overflow_cast-result
+cast_result c = cast_need (held c.ranges.v) w64 (then c).wide
 
-add_result : tie.Need-overflow-add-result
-add_result c = sum_need (cast (held c.before.ranges.v) w64 (then c).wide) (num w64 (pos 4294967296) tt) (then c).sum
+add_result : tie.Need-overflow_add-result
+add_result c = sum_need (cast (held c.ranges.v) w64 (then c).wide) (num w64 (pos 4294967296) tt) (then c).sum
 
-cast_result_2 : tie.Need-overflow-cast-result-2
+cast_result_2 : tie.Need-overflow_cast-result-then-v-lt0
 cast_result_2 c = size_need (sum_of c) w32 ((then c).natural, (then c).size)
 
-cast_result_3 : tie.Need-overflow-cast-result-3
-cast_result_3 c = size_need (held c.before.ranges.v) w32 ((else c).natural, (else c).size)
+cast_result_3 : tie.Need-overflow_cast-result-else-v-lt0
+cast_result_3 c = size_need (held c.ranges.v) w32 ((else c).natural, (else c).size)
 
-returns : tie.Need-returns
+returns : tie.Need-returns-then-v-lt0
 returns c = size (sum_of c) ∙ (then c).is
 
-returns_2 : tie.Need-returns-2
-returns_2 c = size (held c.before.ranges.v) ∙ (else c).is
+returns_2 : tie.Need-returns-else-v-lt0
+returns_2 c = size (held c.ranges.v) ∙ (else c).is
 
 pub word_of_spec : {M : Type 1} → statement M
 word_of_spec =

@@ -31,15 +31,15 @@ above h l f g e = fit h l f g (omega whole)
 same_or_above : (high low : ℤ) → SFits w32 high → SFits w32 low → lt_z high low ≡ false → Fit high low
 same_or_above h l f g e = fit h l f g (omega whole)
 
-then : (c : tie.Then1) → Fit c.before.args.b c.before.args.a
+then : (c : tie.Then-a-b) → Fit c.args.b c.args.a
 then c =
-    let s = c.before in
-    above s.args.b s.args.a s.ranges.b s.ranges.a (test_lt (held s.ranges.a) (held s.ranges.b) c.if1.true)
+    let s = c in
+    above s.args.b s.args.a s.ranges.b s.ranges.a (test_lt (held s.ranges.a) (held s.ranges.b) c.if-a-b.true)
 
-else : (c : tie.Else1) → Fit c.before.args.a c.before.args.b
+else : (c : tie.Else-a-b) → Fit c.args.a c.args.b
 else c =
-    let s = c.before in
-    same_or_above s.args.a s.args.b s.ranges.a s.ranges.b (test_lt (held s.ranges.a) (held s.ranges.b) c.if1.false)
+    let s = c in
+    same_or_above s.args.a s.args.b s.ranges.a s.ranges.b (test_lt (held s.ranges.a) (held s.ranges.b) c.if-a-b.false)
 
 -- the difference as the machine has it
 gap : {high low : ℤ} → SFits w32 high → SFits w32 low → Fit high low
@@ -49,35 +49,35 @@ gap f g h = dif (cast (held f) w64 h.high64) (cast (held g) w64 h.low64) h.gap
 gap_need : {high low : ℤ} → SFits w32 high → SFits w32 low → Fit high low → SFits w64 (to_z w64 (of_z w64 (to_z w32 (of_z w32 high))) -ℤ to_z w64 (of_z w64 (to_z w32 (of_z w32 low))))
 gap_need f g h = dif_need (cast (held f) w64 h.high64) (cast (held g) w64 h.low64) h.gap
 
-cast_result : tie.Need-overflow-cast-result
-cast_result c = cast_need (held c.before.ranges.b) w64 (then c).high64
+cast_result : tie.Need-overflow_cast-result
+cast_result c = cast_need (held c.ranges.b) w64 (then c).high64
 
-cast_result_2 : tie.Need-overflow-cast-result-2
-cast_result_2 c = cast_need (held c.before.ranges.a) w64 (then c).low64
+cast_result_2 : tie.Need-overflow_cast-result-then-a-b
+cast_result_2 c = cast_need (held c.ranges.a) w64 (then c).low64
 
-sub_result : tie.Need-overflow-sub-result
-sub_result c = gap_need c.before.ranges.b c.before.ranges.a (then c)
+sub_result : tie.Need-overflow_sub-result
+sub_result c = gap_need c.ranges.b c.ranges.a (then c)
 
-cast_result_3 : tie.Need-overflow-cast-result-3
-cast_result_3 c = let f = then c in size_need (gap c.before.ranges.b c.before.ranges.a f) w32 (f.natural, f.size)
+cast_result_3 : tie.Need-overflow_cast-result-then-a-b-2
+cast_result_3 c = let f = then c in size_need (gap c.ranges.b c.ranges.a f) w32 (f.natural, f.size)
 
-cast_result_4 : tie.Need-overflow-cast-result-4
-cast_result_4 c = cast_need (held c.before.ranges.a) w64 (else c).high64
+cast_result_4 : tie.Need-overflow_cast-result-else-a-b
+cast_result_4 c = cast_need (held c.ranges.a) w64 (else c).high64
 
-cast_result_5 : tie.Need-overflow-cast-result-5
-cast_result_5 c = cast_need (held c.before.ranges.b) w64 (else c).low64
+cast_result_5 : tie.Need-overflow_cast-result-else-a-b-2
+cast_result_5 c = cast_need (held c.ranges.b) w64 (else c).low64
 
-sub_result_2 : tie.Need-overflow-sub-result-2
-sub_result_2 c = gap_need c.before.ranges.a c.before.ranges.b (else c)
+sub_result_2 : tie.Need-overflow_sub-result-else-a-b
+sub_result_2 c = gap_need c.ranges.a c.ranges.b (else c)
 
-cast_result_6 : tie.Need-overflow-cast-result-6
-cast_result_6 c = let f = else c in size_need (gap c.before.ranges.a c.before.ranges.b f) w32 (f.natural, f.size)
+cast_result_6 : tie.Need-overflow_cast-result-else-a-b-3
+cast_result_6 c = let f = else c in size_need (gap c.ranges.a c.ranges.b f) w32 (f.natural, f.size)
 
-returns : tie.Need-returns
-returns c = let f = then c in size (gap c.before.ranges.b c.before.ranges.a f) ∙ f.turned
+returns : tie.Need-returns-then-a-b
+returns c = let f = then c in size (gap c.ranges.b c.ranges.a f) ∙ f.turned
 
-returns_2 : tie.Need-returns-2
-returns_2 c = size (gap c.before.ranges.a c.before.ranges.b (else c))
+returns_2 : tie.Need-returns-else-a-b
+returns_2 c = size (gap c.ranges.a c.ranges.b (else c))
 
 pub distance_spec : {M : Type 1} → statement M
 distance_spec =

@@ -14,7 +14,7 @@ distance_requires : tie.Need-distance-requires
 distance_requires c κs = search rules
 
 returns : tie.Need-returns
-returns c = c.distance.ensures ∙ ap nat_abs (ap (λ (z : ℤ). z -ℤ pos 0) (to_z-of_z c.before.ranges.v) ∙ less_none c.before.args.v)
+returns c = c.distance.ensures ∙ ap nat_abs (ap (λ (z : ℤ). z -ℤ pos 0) (to_z-of_z c.ranges.v) ∙ less_none c.args.v)
 
 pub magnitude_spec : {M : Type 1} → statement M
 magnitude_spec = tie.close (tie.spec distance_requires returns)

@@ -34,29 +34,29 @@ length c = record { bits = refl; fits = (fit c).by }
 turned : (c : tie.Start) {t : Side} → c.args.side ≡ t → c.args.from +ℤ along t c.args.by ≡ c.args.from +ℤ along c.args.side c.args.by
 turned c e = ap (λ (t : Side). c.args.from +ℤ along t c.args.by) (sym e)
 
-cast_result : tie.Need-overflow-cast-result
-cast_result c = let s = c.before.before in cast_need (held s.ranges.from) w64 (fit s).from
+cast_result : tie.Need-overflow_cast-result
+cast_result c = let s = c in cast_need (held s.ranges.from) w64 (fit s.before).from
 
-add_result : tie.Need-overflow-add-result
-add_result c = let s = c.before.before in sum_need (start s) (length s) (fit s).sum
+add_result : tie.Need-overflow_add-result
+add_result c = let s = c in sum_need (start s.before) (length s.before) (fit s.before).sum
 
-cast_result_3 : tie.Need-overflow-cast-result-3
-cast_result_3 c = let s = c.before.before in cast_need (held s.ranges.from) w64 (fit s).from
+cast_result_3 : tie.Need-overflow_cast-result-in-Minus
+cast_result_3 c = let s = c in cast_need (held s.ranges.from) w64 (fit s.before).from
 
-sub_result : tie.Need-overflow-sub-result
-sub_result c = let s = c.before.before in dif_need (start s) (length s) (fit s).dif
+sub_result : tie.Need-overflow_sub-result
+sub_result c = let s = c in dif_need (start s.before) (length s.before) (fit s.before).dif
 
-cast_result_5 : tie.Need-overflow-cast-result-5
-cast_result_5 c = let s = c.before.before in cast_need (held s.ranges.from) w64 (fit s).from
+cast_result_5 : tie.Need-overflow_cast-result-in-Zero
+cast_result_5 c = let s = c in cast_need (held s.ranges.from) w64 (fit s.before).from
 
-returns : tie.Need-returns
-returns c = let s = c.before.before in is (sum (start s) (length s) (fit s).sum) ∙ turned s c.enum_told.given.1
+returns : tie.Need-returns-in-Plus
+returns c = let s = c in is (sum (start s.before) (length s.before) (fit s.before).sum) ∙ turned s.before c.in-Plus.is
 
-returns_2 : tie.Need-returns-2
-returns_2 c = let s = c.before.before in is (dif (start s) (length s) (fit s).dif) ∙ turned s c.enum-told2.given.1
+returns_2 : tie.Need-returns-in-Minus
+returns_2 c = let s = c in is (dif (start s.before) (length s.before) (fit s.before).dif) ∙ turned s.before c.in-Minus.is
 
-returns_3 : tie.Need-returns-3
-returns_3 c = let s = c.before.before in is (start s) ∙ sym (+ℤ_idr s.args.from) ∙ turned s c.enum-told3.given.1
+returns_3 : tie.Need-returns-in-Zero
+returns_3 c = let s = c in is (start s.before) ∙ sym (+ℤ_idr s.args.from) ∙ turned s.before c.in-Zero.is
 
 pub reach_spec : {M : Type 1} → statement M
 reach_spec =

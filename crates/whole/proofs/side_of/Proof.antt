@@ -20,20 +20,20 @@ minus from to e = is_minus (to -ℤ from) (omega (whole, sub_in to from))
 zero : (from to : ℤ) → lt_z from to ≡ false → lt_z to from ≡ false → Zero ≡ side_of (to -ℤ from)
 zero from to e f = is_zero (to -ℤ from) (omega (whole, sub_in to from))
 
-returns : tie.Need-returns
+returns : tie.Need-returns-then-from-to
 returns c =
-    let s = c.before in
-    plus s.args.from s.args.to (test_lt (held s.ranges.from) (held s.ranges.to) c.if1.true)
+    let s = c in
+    plus s.args.from s.args.to (test_lt (held s.ranges.from) (held s.ranges.to) c.if-from-to.true)
 
-returns_2 : tie.Need-returns-2
+returns_2 : tie.Need-returns-then-to-from
 returns_2 c =
-    let s = c.before.before in
-    minus s.args.from s.args.to (test_lt (held s.ranges.to) (held s.ranges.from) c.if2.true)
+    let s = c in
+    minus s.args.from s.args.to (test_lt (held s.ranges.to) (held s.ranges.from) c.if-to-from.true)
 
-returns_3 : tie.Need-returns-3
+returns_3 : tie.Need-returns
 returns_3 c =
-    let s = c.before.before in
-    zero s.args.from s.args.to (test_lt (held s.ranges.from) (held s.ranges.to) c.before.if1.false) (test_lt (held s.ranges.to) (held s.ranges.from) c.if2.false)
+    let s = c in
+    zero s.args.from s.args.to (test_lt (held s.ranges.from) (held s.ranges.to) c.if-from-to.false) (test_lt (held s.ranges.to) (held s.ranges.from) c.if-to-from.false)
 
 pub side_of_spec : {M : Type 1} → statement M
 side_of_spec = tie.close (tie.spec returns returns_2 returns_3)

@@ -17,42 +17,42 @@ invariant_loop tape from i₀ i = (from ≤ i) × (i ≤ length tape) × (seek_f
 abbrev decreases_loop : tie.decreases-loop
 decreases_loop tape from i₀ i = length tape - i
 
-loop_holds : tie.Need-loop-init invariant_loop decreases_loop
+loop_holds : tie.Need-loop-i-init invariant_loop decreases_loop
 unfolding is_line_feed
 loop_holds c =
-    let a = c.before.before.args in
-    let p = c.pass-stretches.ensures in
-    let r = c.pass-stretches.result in
+    let a = c.args in
+    let p = c.pass_stretches-i.ensures in
+    let r = c.pass_stretches-i.result in
     (p.0, p.1, scan_past is_line_feed (r - a.from) a.tape.now a.from r (omega (arith, p.0)) p.1 (λ k l h. ne_eqb _ _ (p.2 k l h).0))
 
-shared_slice_read_if2 : tie.Need-shared-slice-read-if2 invariant_loop decreases_loop
+shared_slice_read_if2 : tie.Need-bounds-tape-i invariant_loop decreases_loop
 shared_slice_read_if2 c = omega arith
 
-add_i : tie.Need-overflow-add-i invariant_loop decreases_loop
+add_i : tie.Need-overflow_add-i invariant_loop decreases_loop
 add_i c = omega arith
 
-loop_less : tie.Need-loop-smaller invariant_loop decreases_loop
+loop_less : tie.Need-loop-i-smaller invariant_loop decreases_loop
 loop_less c = omega arith
 
-loop_again : tie.Need-loop-preserved invariant_loop decreases_loop
+loop_again : tie.Need-loop-i-preserved invariant_loop decreases_loop
 unfolding is_line_feed
 loop_again c =
-    let s = c.before.before.before.before.before.before.args.tape.now in
-    let l = c.before.before.before.loop in
-    (omega arith, omega arith, l.invariant.2 ∙ scan_more is_line_feed s l.i (omega arith) (ne_eqb _ _ c.if2.false))
+    let s = c.args.tape.now in
+    let l = c.loop-i in
+    (omega arith, omega arith, l.invariant.2 ∙ scan_more is_line_feed s l.i (omega arith) (ne_eqb _ _ c.if-tape-i-eq10.false))
 
-returns : tie.Need-returns invariant_loop decreases_loop
+returns : tie.Need-returns-then-i-tape invariant_loop decreases_loop
 returns c =
-    let s = c.before.before.before.before.args.tape.now in
-    let l = c.before.loop in
-    (sym (l.invariant.2 ∙ scan_end is_line_feed s l.i c.if1.true), l.invariant.0, l.invariant.1)
+    let s = c.args.tape.now in
+    let l = c.loop-i in
+    (sym (l.invariant.2 ∙ scan_end is_line_feed s l.i c.if-i-tape.true), l.invariant.0, l.invariant.1)
 
-returns_2 : tie.Need-returns-2 invariant_loop decreases_loop
+returns_2 : tie.Need-returns-then-tape-i-eq10 invariant_loop decreases_loop
 unfolding is_line_feed
 returns_2 c =
-    let s = c.before.before.before.before.before.before.args.tape.now in
-    let l = c.before.before.before.loop in
-    (sym (l.invariant.2 ∙ scan_hit is_line_feed s l.i (omega arith) (eq-eqb _ _ c.if2.true)), l.invariant.0, l.invariant.1)
+    let s = c.args.tape.now in
+    let l = c.loop-i in
+    (sym (l.invariant.2 ∙ scan_hit is_line_feed s l.i (omega arith) (eq-eqb _ _ c.if-tape-i-eq10.true)), l.invariant.0, l.invariant.1)
 
 pub find_line_feed_spec : {M : Type 1} → statement M
 find_line_feed_spec =

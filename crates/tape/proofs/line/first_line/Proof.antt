@@ -15,37 +15,37 @@ invariant_loop tape i₀ i = (i ≤ length tape) × (seek_from opens_tape tape 0
 abbrev decreases_loop : tie.decreases-loop
 decreases_loop tape i₀ i = length tape - i
 
-loop_holds : tie.Need-loop-init invariant_loop decreases_loop
+loop_holds : tie.Need-loop-i-init invariant_loop decreases_loop
 loop_holds c = (omega arith, refl)
 
-shared_slice_read_b : tie.Need-shared-slice-read-b invariant_loop decreases_loop
+shared_slice_read_b : tie.Need-bounds-tape-i invariant_loop decreases_loop
 shared_slice_read_b c = omega arith
 
-add_i : tie.Need-overflow-add-i invariant_loop decreases_loop
+add_i : tie.Need-overflow_add-i invariant_loop decreases_loop
 add_i c = omega arith
 
-loop_less : tie.Need-loop-smaller invariant_loop decreases_loop
+loop_less : tie.Need-loop-i-smaller invariant_loop decreases_loop
 loop_less c = omega arith
 
-loop_again : tie.Need-loop-preserved invariant_loop decreases_loop
+loop_again : tie.Need-loop-i-preserved invariant_loop decreases_loop
 unfolding opens_tape
 loop_again c =
-    let s = c.before.before.before.before.args.tape.now in
-    let l = c.before.before.before.loop in
-    (omega arith, l.invariant.1 ∙ scan_more opens_tape s l.i (omega arith) c.if2.false)
+    let s = c.args.tape.now in
+    let l = c.loop-i in
+    (omega arith, l.invariant.1 ∙ scan_more opens_tape s l.i (omega arith) c.if-b.false)
 
-returns : tie.Need-returns invariant_loop decreases_loop
+returns : tie.Need-returns-then-i-tape invariant_loop decreases_loop
 returns c =
-    let s = c.before.before.args.tape.now in
-    let l = c.before.loop in
-    (sym (l.invariant.1 ∙ scan_end opens_tape s l.i c.if1.true), l.invariant.0)
+    let s = c.args.tape.now in
+    let l = c.loop-i in
+    (sym (l.invariant.1 ∙ scan_end opens_tape s l.i c.if-i-tape.true), l.invariant.0)
 
-returns_2 : tie.Need-returns-2 invariant_loop decreases_loop
+returns_2 : tie.Need-returns-then-b invariant_loop decreases_loop
 unfolding opens_tape
 returns_2 c =
-    let s = c.before.before.before.before.args.tape.now in
-    let l = c.before.before.before.loop in
-    (sym (l.invariant.1 ∙ scan_hit opens_tape s l.i (omega arith) c.if2.true), l.invariant.0)
+    let s = c.args.tape.now in
+    let l = c.loop-i in
+    (sym (l.invariant.1 ∙ scan_hit opens_tape s l.i (omega arith) c.if-b.true), l.invariant.0)
 
 pub first_line_spec : {M : Type 1} → statement M
 first_line_spec =

@@ -15,31 +15,31 @@ invariant_loop bytes from one other found₀ k₀ found k = (k ≤ stretch) × (
 abbrev decreases_loop : tie.decreases-loop
 decreases_loop bytes from one other found₀ k₀ found k = stretch - k
 
-loop_holds : tie.Need-loop-init invariant_loop decreases_loop
+loop_holds : tie.Need-loop-k-init invariant_loop decreases_loop
 loop_holds c = (omega arith, λ _ j l h. absurd (omega (arith, l, h)))
 
-add_b : tie.Need-overflow-add-b invariant_loop decreases_loop
+add_b : tie.Need-overflow_add-b invariant_loop decreases_loop
 add_b c = omega arith
 
-shared_slice_read_b : tie.Need-shared-slice-read-b invariant_loop decreases_loop
+shared_slice_read_b : tie.Need-bounds-bytes-from invariant_loop decreases_loop
 shared_slice_read_b c = omega arith
 
-add_k : tie.Need-overflow-add-k invariant_loop decreases_loop
+add_k : tie.Need-overflow_add-k invariant_loop decreases_loop
 add_k c = omega arith
 
-loop_less : tie.Need-loop-smaller invariant_loop decreases_loop
+loop_less : tie.Need-loop-k-smaller invariant_loop decreases_loop
 loop_less c = omega arith
 
-loop_again : tie.Need-loop-preserved invariant_loop decreases_loop
+loop_again : tie.Need-loop-k-preserved invariant_loop decreases_loop
 loop_again c =
-    let l = c.before.before in
-    let a = l.before.args in
-    (omega arith, neither_next a.bytes.now a.one a.other l.loop.found a.from l.loop.k l.loop.invariant.1)
+    let l = c in
+    let a = l.args in
+    (omega arith, neither_next a.bytes.now a.one a.other l.loop-k.found a.from l.loop-k.k l.loop-k.invariant.1)
 
 returns : tie.Need-returns invariant_loop decreases_loop
 returns c =
-    let l = c.before.loop in
-    let a = c.before.before.args in
+    let l = c.loop-k in
+    let a = c.args in
     let all : l.k ≡ stretch = omega arith in
     λ e. subst (λ (n : ℕ). Neither a.bytes.now a.one a.other a.from (a.from + n)) all (l.invariant.1 e)
 

@@ -7,35 +7,35 @@ use Rattle.tape.proofs.Lining.{line_by}
 use Rattle.tape.proofs.line.line_at.Statement.{statement}
 use Rattle.tape.proofs.line.line_at.Tie as tie
 
-returns : tie.Need-returns
+returns : tie.Need-returns-then-feed-tape
 unfolding line_at
 returns c =
-    let a = c.before.before.before.args in
-    line_by a.tape.now a.from c.before.before.before.requires
-    (rw (← c.before.find-line-feed.ensures.0, le-ltb _ _ c.if1.true))
+    let a = c.args in
+    line_by a.tape.now a.from c.requires
+    (rw (← c.find_line_feed-feed.ensures.0, le-ltb _ _ c.if-feed-tape.true))
 
-returns_2 : tie.Need-returns-2
+returns_2 : tie.Need-returns-then-from-feed
 unfolding line_at
 returns_2 c =
-    let a = c.before.before.before.before.args in
-    line_by a.tape.now a.from c.before.before.before.before.requires
-    (rw (← c.before.before.find-line-feed.ensures.0, lt-ltb _ _ c.before.if1.false, le-ltb _ _ c.if2.true))
+    let a = c.args in
+    line_by a.tape.now a.from c.requires
+    (rw (← c.find_line_feed-feed.ensures.0, lt-ltb _ _ c.if-feed-tape.false, le-ltb _ _ c.if-from-feed.true))
 
-returns_3 : tie.Need-returns-3
+returns_3 : tie.Need-returns-then-tape-feed-eq13
 unfolding line_at
 returns_3 c =
-    let o = c.before.before.before in
-    let a = o.before.before.before.args in
-    line_by a.tape.now a.from o.before.before.before.requires
-    (rw (← o.before.find-line-feed.ensures.0, lt-ltb _ _ o.if1.false, lt-ltb _ _ c.before.before.if2.false, eq-eqb _ _ c.if3.true))
+    let o = c in
+    let a = o.args in
+    line_by a.tape.now a.from o.requires
+    (rw (← o.find_line_feed-feed.ensures.0, lt-ltb _ _ o.if-feed-tape.false, lt-ltb _ _ c.if-from-feed.false, eq-eqb _ _ c.if-tape-feed-eq13.true))
 
-returns_4 : tie.Need-returns-4
+returns_4 : tie.Need-returns
 unfolding line_at
 returns_4 c =
-    let o = c.before.before.before in
-    let a = o.before.before.before.args in
-    line_by a.tape.now a.from o.before.before.before.requires
-    (rw (← o.before.find-line-feed.ensures.0, lt-ltb _ _ o.if1.false, lt-ltb _ _ c.before.before.if2.false, ne_eqb _ _ c.if3.false))
+    let o = c in
+    let a = o.args in
+    line_by a.tape.now a.from o.requires
+    (rw (← o.find_line_feed-feed.ensures.0, lt-ltb _ _ o.if-feed-tape.false, lt-ltb _ _ c.if-from-feed.false, ne_eqb _ _ c.if-tape-feed-eq13.false))
 
 pub line_at_spec : {M : Type 1} → statement M
 line_at_spec =

@@ -14,33 +14,33 @@ invariant_loop bytes from one other i₀ i = (from ≤ i) × (i ≤ length bytes
 abbrev decreases_loop : tie.decreases-loop
 decreases_loop bytes from one other i₀ i = length bytes - i
 
-loop_holds : tie.Need-loop-init invariant_loop decreases_loop
-loop_holds c = let a = c.before.args in (omega arith, omega arith, neither_here a.bytes.now a.one a.other a.from)
+loop_holds : tie.Need-loop-i-init invariant_loop decreases_loop
+loop_holds c = let a = c.args in (omega arith, omega arith, neither_here a.bytes.now a.one a.other a.from)
 
-sub_if1 : tie.Need-overflow-sub-if1 invariant_loop decreases_loop
+sub_if1 : tie.Need-overflow_sub-bytes invariant_loop decreases_loop
 sub_if1 c = omega arith
 
-has_either_requires : tie.Need-has-either-requires invariant_loop decreases_loop
+has_either_requires : tie.Need-has_either-requires invariant_loop decreases_loop
 has_either_requires c κs = omega arith
 
-add_i : tie.Need-overflow-add-i invariant_loop decreases_loop
+add_i : tie.Need-overflow_add-i invariant_loop decreases_loop
 add_i c = omega arith
 
-loop_less : tie.Need-loop-smaller invariant_loop decreases_loop
+loop_less : tie.Need-loop-i-smaller invariant_loop decreases_loop
 loop_less c = omega arith
 
-loop_again : tie.Need-loop-preserved invariant_loop decreases_loop
+loop_again : tie.Need-loop-i-preserved invariant_loop decreases_loop
 loop_again c =
-    let e = c.before in
-    let l = e.before.before in
-    let a = l.before.before.args in
-    (omega arith, omega arith, neither_on a.bytes.now a.one a.other a.from l.loop.i (l.loop.i + stretch) l.loop.invariant.2 (e.has_either.ensures c.if2.false))
+    let e = c in
+    let l = e in
+    let a = l.args in
+    (omega arith, omega arith, neither_on a.bytes.now a.one a.other a.from l.loop-i.i (l.loop-i.i + stretch) l.loop-i.invariant.2 (e.has_either.ensures c.if-has_either.false))
 
-returns : tie.Need-returns invariant_loop decreases_loop
-returns c = c.before.loop.invariant
+returns : tie.Need-returns-then-bytes-i-lt-STRETCH invariant_loop decreases_loop
+returns c = c.loop-i.invariant
 
-returns_2 : tie.Need-returns-2 invariant_loop decreases_loop
-returns_2 c = c.before.before.before.loop.invariant
+returns_2 : tie.Need-returns-then-has_either invariant_loop decreases_loop
+returns_2 c = c.loop-i.invariant
 
 pub pass_stretches_spec : {M : Type 1} → statement M
 pass_stretches_spec =

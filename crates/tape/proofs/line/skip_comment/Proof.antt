@@ -17,42 +17,42 @@ invariant_loop line from i₀ i = (from ≤ i) × (i ≤ length line) × (gap_of
 abbrev decreases_loop : tie.decreases-loop
 decreases_loop line from i₀ i = length line - i
 
-loop_holds : tie.Need-loop-init invariant_loop decreases_loop
+loop_holds : tie.Need-loop-i-init invariant_loop decreases_loop
 loop_holds c =
-    let a = c.before.before.args in
-    let p = c.pass-stretches.ensures in
-    let r = c.pass-stretches.result in
+    let a = c.args in
+    let p = c.pass_stretches-i.ensures in
+    let r = c.pass_stretches-i.result in
     (p.0, p.1, gap_past (r - a.from) a.line.now a.from r (omega (arith, p.0)) p.1 p.2)
 
-shared_slice_read_b : tie.Need-shared-slice-read-b invariant_loop decreases_loop
+shared_slice_read_b : tie.Need-bounds-line-i invariant_loop decreases_loop
 shared_slice_read_b c = omega arith
 
-add_i : tie.Need-overflow-add-i invariant_loop decreases_loop
+add_i : tie.Need-overflow_add-i invariant_loop decreases_loop
 add_i c = omega arith
 
-loop_less : tie.Need-loop-smaller invariant_loop decreases_loop
+loop_less : tie.Need-loop-i-smaller invariant_loop decreases_loop
 loop_less c = omega arith
 
-loop_again : tie.Need-loop-preserved invariant_loop decreases_loop
+loop_again : tie.Need-loop-i-preserved invariant_loop decreases_loop
 loop_again c =
-    let l = c.before.before.before.before in
-    let s = l.before.before.before.args.line.now in
-    (omega arith, omega arith, l.loop.invariant.2 ∙ gap_inside s l.loop.i (omega arith) c.before.if2.false c.if3.false)
+    let l = c in
+    let s = l.args.line.now in
+    (omega arith, omega arith, l.loop-i.invariant.2 ∙ gap_inside s l.loop-i.i (omega arith) c.if-b-eq13.false c.if-b-eq41.false)
 
-returns : tie.Need-returns invariant_loop decreases_loop
+returns : tie.Need-returns-then-i-line invariant_loop decreases_loop
 returns c =
-    let l = c.before in
-    l.loop.invariant.2 ∙ gap_open l.before.before.before.args.line.now l.loop.i c.if1.true
+    let l = c in
+    l.loop-i.invariant.2 ∙ gap_open l.args.line.now l.loop-i.i c.if-i-line.true
 
-returns_2 : tie.Need-returns-2 invariant_loop decreases_loop
+returns_2 : tie.Need-returns-then-b-eq13 invariant_loop decreases_loop
 returns_2 c =
-    let l = c.before.before.before in
-    l.loop.invariant.2 ∙ gap_return l.before.before.before.args.line.now l.loop.i (omega arith) c.if2.true
+    let l = c in
+    l.loop-i.invariant.2 ∙ gap_return l.args.line.now l.loop-i.i (omega arith) c.if-b-eq13.true
 
-returns_3 : tie.Need-returns-3 invariant_loop decreases_loop
+returns_3 : tie.Need-returns-then-b-eq41 invariant_loop decreases_loop
 returns_3 c =
-    let l = c.before.before.before.before in
-    (l.loop.invariant.2 ∙ gap_close l.before.before.before.args.line.now l.loop.i (omega arith) c.if3.true, omega arith, omega arith)
+    let l = c in
+    (l.loop-i.invariant.2 ∙ gap_close l.args.line.now l.loop-i.i (omega arith) c.if-b-eq41.true, omega arith, omega arith)
 
 pub skip_comment_spec : {M : Type 1} → statement M
 skip_comment_spec =

@@ -18,59 +18,59 @@ invariant_loop line from i₀ i = (i ≤ length line) × (gap_of false from (dro
 abbrev decreases_loop : tie.decreases-loop
 decreases_loop line from i₀ i = length line - i
 
-loop_holds : tie.Need-loop-init invariant_loop decreases_loop
+loop_holds : tie.Need-loop-i-init invariant_loop decreases_loop
 loop_holds c = (omega arith, refl, omega arith)
 
-returns : tie.Need-returns invariant_loop decreases_loop
+returns : tie.Need-returns-then-i-line invariant_loop decreases_loop
 returns c =
-    let l = c.before in
-    (sym (l.loop.invariant.1 ∙ gap_end l.before.before.args.line.now l.loop.i c.if1.true), (l.loop.invariant.2, l.loop.invariant.0))
+    let l = c in
+    (sym (l.loop-i.invariant.1 ∙ gap_end l.args.line.now l.loop-i.i c.if-i-line.true), (l.loop-i.invariant.2, l.loop-i.invariant.0))
 
-shared_slice_read_b : tie.Need-shared-slice-read-b invariant_loop decreases_loop
+shared_slice_read_b : tie.Need-bounds-line-i invariant_loop decreases_loop
 shared_slice_read_b c = omega arith
 
-add_skip_comment : tie.Need-overflow-add-skip-comment invariant_loop decreases_loop
+add_skip_comment : tie.Need-overflow_add-i invariant_loop decreases_loop
 add_skip_comment c = omega arith
 
-skip_comment_requires : tie.Need-skip-comment-requires invariant_loop decreases_loop
+skip_comment_requires : tie.Need-skip_comment-behind-requires invariant_loop decreases_loop
 skip_comment_requires c κs = omega arith
 
 -- what lies behind the comment that was skipped
-closed : (k : tie.After-skip-comment invariant_loop decreases_loop) {g : Gap} → k.skip-comment.result ≡ g
-    → Closed g k.before.before.before.before.before.before.args.line.now (k.before.before.before.before.loop.i + 1)
-closed k e = subst (λ (g : Gap). Closed g k.before.before.before.before.before.before.args.line.now (k.before.before.before.before.loop.i + 1)) e k.skip-comment.ensures
+closed : (k : tie.After-skip_comment-behind invariant_loop decreases_loop) {g : Gap} → k.skip_comment-behind.result ≡ g
+    → Closed g k.args.line.now (k.loop-i.i + 1)
+closed k e = subst (λ (g : Gap). Closed g k.args.line.now (k.loop-i.i + 1)) e k.skip_comment-behind.ensures
 
-returns_2 : tie.Need-returns-2 invariant_loop decreases_loop
+returns_2 : tie.Need-returns-in-Fault invariant_loop decreases_loop
 returns_2 c =
-    let k = c.before.before in
-    let l = k.before.before.before.before in
-    (sym (l.loop.invariant.1 ∙ gap_begin l.before.before.args.line.now l.loop.i (omega arith) k.before.if2.true ∙ closed k c.enum_told.given.1), tt)
+    let k = c in
+    let l = k in
+    (sym (l.loop-i.invariant.1 ∙ gap_begin l.args.line.now l.loop-i.i (omega arith) k.if-b-eq40.true ∙ closed k.before c.in-Fault.is), tt)
 
-loop_less : tie.Need-loop-smaller invariant_loop decreases_loop
-loop_less c = let p = closed c.before.before.before c.before.behind.given.1 in omega (arith, p.1, p.2)
+loop_less : tie.Need-loop-i-smaller-in-At invariant_loop decreases_loop
+loop_less c = let p = closed c.before c.in-At.is in omega (arith, p.1, p.2)
 
-loop_again : tie.Need-loop-preserved invariant_loop decreases_loop
+loop_again : tie.Need-loop-i-preserved-in-At invariant_loop decreases_loop
 loop_again c =
-    let k = c.before.before.before in
-    let l = k.before.before.before.before in
-    let p = closed k c.before.behind.given.1 in
-    (p.2, l.loop.invariant.1 ∙ gap_begin l.before.before.args.line.now l.loop.i (omega arith) k.before.if2.true ∙ p.0, omega (arith, p.1, l.loop.invariant.2))
+    let k = c in
+    let l = k in
+    let p = closed k.before c.in-At.is in
+    (p.2, l.loop-i.invariant.1 ∙ gap_begin l.args.line.now l.loop-i.i (omega arith) k.if-b-eq40.true ∙ p.0, omega (arith, p.1, l.loop-i.invariant.2))
 
-add_i : tie.Need-overflow-add-i invariant_loop decreases_loop
+add_i : tie.Need-overflow_add-i-then-b-eq32 invariant_loop decreases_loop
 add_i c = omega arith
 
-loop_less_2 : tie.Need-loop-smaller-2 invariant_loop decreases_loop
+loop_less_2 : tie.Need-loop-i-smaller invariant_loop decreases_loop
 loop_less_2 c = omega arith
 
-loop_again_2 : tie.Need-loop-preserved-2 invariant_loop decreases_loop
+loop_again_2 : tie.Need-loop-i-preserved invariant_loop decreases_loop
 loop_again_2 c =
-    let l = c.before.before.before.before in
-    (omega arith, l.loop.invariant.1 ∙ gap_space l.before.before.args.line.now l.loop.i (omega arith) c.if3.true, omega arith)
+    let l = c in
+    (omega arith, l.loop-i.invariant.1 ∙ gap_space l.args.line.now l.loop-i.i (omega arith) c.if-b-eq32.true, omega arith)
 
-returns_3 : tie.Need-returns-3 invariant_loop decreases_loop
+returns_3 : tie.Need-returns-else-b-eq32 invariant_loop decreases_loop
 returns_3 c =
-    let l = c.before.before.before.before in
-    (sym (l.loop.invariant.1 ∙ gap_word l.before.before.args.line.now l.loop.i (omega arith) c.before.if2.false c.if3.false), (l.loop.invariant.2, l.loop.invariant.0))
+    let l = c in
+    (sym (l.loop-i.invariant.1 ∙ gap_word l.args.line.now l.loop-i.i (omega arith) c.if-b-eq40.false c.if-b-eq32.false), (l.loop-i.invariant.2, l.loop-i.invariant.0))
 
 pub skip_gap_spec : {M : Type 1} → statement M
 skip_gap_spec =

@@ -12,7 +12,7 @@ sum_requires c κs = search rules
 
 returns : tie.Need-returns
 returns c =
-    let s = c.before in
+    let s = c in
     c.sum.ensures ∙ (λ i. placed (to_z-of_z s.ranges.word i +ℤ to_z-of_z s.ranges.offset i))
 
 pub from_x_word_spec : {M : Type 1} → statement M

@@ -25,20 +25,20 @@ fit c =
     let f : SFits w32 a = c.ranges.present in
     record { field = f; um = omega whole; word = omega whole; double = omega (whole, up_mul 2 u, down_mul 2 u); sum = omega (whole, up_mul 2 u, down_mul 2 u, add_in a (pos 2 *ℤ u)) }
 
-cast_place : tie.Need-overflow-cast-place
+cast_place : tie.Need-overflow_cast-present
 cast_place c = let f = fit c in cast_need (held f.field) w64 f.um
 
-cast_place_2 : tie.Need-overflow-cast-place-2
+cast_place_2 : tie.Need-overflow_cast-u
 cast_place_2 c = cast_need (held c.ranges.u) w64 (fit c).word
 
 -- what the locals hold
 twice : (c : tie.Start) → Holds w64 (of_z w64 (to_z w64 (of_z w64 (pos 2)) *ℤ to_z w64 (of_z w64 (to_z w32 (of_z w32 c.args.u))))) (pos 2 *ℤ c.args.u)
 twice c = prod (num w64 (pos 2) tt) (cast (held c.ranges.u) w64 (fit c).word) (fit c).double
 
-mul_place : tie.Need-overflow-mul-place
+mul_place : tie.Need-overflow_mul-u
 mul_place c = prod_need (num w64 (pos 2) tt) (cast (held c.ranges.u) w64 (fit c).word) (fit c).double
 
-add_place : tie.Need-overflow-add-place
+add_place : tie.Need-overflow_add-present
 add_place c = let f = fit c in sum_need (cast (held f.field) w64 f.um) (twice c) f.sum
 
 place_requires : tie.Need-place-requires

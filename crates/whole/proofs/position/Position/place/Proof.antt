@@ -36,28 +36,28 @@ between : (v u : ℤ) → lt_z v target_least ≡ false → lt_z target_greatest
 unfolding placed
 between v u l h e = simp (l, h, e)
 
-cast_if1 : tie.Need-overflow-cast-if1
+cast_if1 : tie.Need-overflow_cast-t-2
 cast_if1 c = search rules
 
-returns : tie.Need-returns
-returns c = too_low c.before.args.v (below c.before c.if1.true)
+returns : tie.Need-returns-then-v
+returns c = too_low c.args.v (below c.before c.if-v.true)
 
-cast_if2 : tie.Need-overflow-cast-if2
+cast_if2 : tie.Need-overflow_cast-t-2-2
 cast_if2 c = search rules
 
-returns_2 : tie.Need-returns-2
-returns_2 c = let s = c.before.before in too_high s.args.v (below s c.before.if1.false) (above s c.if2.true)
+returns_2 : tie.Need-returns-then-v-2
+returns_2 c = let s = c in too_high s.args.v (below s.before.before c.if-v.false) (above s.before.before c.if-v-2.true)
 
-cast_t4 : tie.Need-overflow-cast-t4
+cast_t4 : tie.Need-overflow_cast-result
 cast_t4 c =
-    let s = c.before.before in
-    cast_need (held s.ranges.v) w32 (fit s.args.v (below s c.before.if1.false) (above s c.if2.false))
+    let s = c in
+    cast_need (held s.ranges.v) w32 (fit s.args.v (below s.before.before c.if-v.false) (above s.before.before c.if-v-2.false))
 
-returns_3 : tie.Need-returns-3
+returns_3 : tie.Need-returns
 returns_3 c =
-    let s = c.before.before in
-    let l = below s c.before.if1.false in
-    let h = above s c.if2.false in
+    let s = c in
+    let l = below s.before.before c.if-v.false in
+    let h = above s.before.before c.if-v-2.false in
     between s.args.v _ l h (is (cast (held s.ranges.v) w32 (fit s.args.v l h)))
 
 pub place_spec : {M : Type 1} → statement M

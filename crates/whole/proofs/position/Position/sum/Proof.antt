@@ -14,13 +14,13 @@ use Rattle.whole.proofs.position.Position.sum.Tie as tie
 wider : {z : ℤ} → SFits w32 z → Holds w64 (of_z w64 (to_z w32 (of_z w32 z))) z
 wider f = cast (held f) w64 (widen f)
 
-cast_place : tie.Need-overflow-cast-place
+cast_place : tie.Need-overflow_cast-a
 cast_place c = cast_need (held c.ranges.a) w64 (widen c.ranges.a)
 
-cast_place_2 : tie.Need-overflow-cast-place-2
+cast_place_2 : tie.Need-overflow_cast-b
 cast_place_2 c = cast_need (held c.ranges.b) w64 (widen c.ranges.b)
 
-add_place : tie.Need-overflow-add-place
+add_place : tie.Need-overflow_add-a
 add_place c = sum_need (wider c.ranges.a) (wider c.ranges.b) (sum_fits c.ranges.a c.ranges.b)
 
 place_requires : tie.Need-place-requires
@@ -28,7 +28,7 @@ place_requires c κs = search rules
 
 returns : tie.Need-returns
 returns c =
-    let s = c.before in
+    let s = c in
     c.place.ensures ∙ ap placed (is (sum (wider s.ranges.a) (wider s.ranges.b) (sum_fits s.ranges.a s.ranges.b)))
 
 pub sum_spec : {M : Type 1} → statement M
