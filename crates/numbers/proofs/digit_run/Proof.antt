@@ -11,14 +11,14 @@ use Rattle.numbers.proofs.Reading.{found, here, here_start, here_full, here_end,
 use Rattle.numbers.proofs.digit_run.Statement.{statement}
 use Rattle.numbers.proofs.digit_run.Tie as tie
 
-abbrev invariant_loop : tie.invariant-loop
+abbrev invariant_loop : tie.invariant-loop-n
 invariant_loop part at limit value₀ n₀ value n =
     (n ≤ limit) × (at + n ≤ length part) × (value < 10 ^ n) × (digits_of limit (drop at part) 0 0 ≡ here part at limit value n)
 
 run_of : (s : List ℕ) (at limit value n : ℕ) → invariant_loop s at limit 0 0 value n → here s at limit value n ≡ found value n → Run s at limit (found value n)
 run_of s at limit value n i e = record { is = sym (i.3 ∙ e); few = i.0; within = i.1; small = i.2 }
 
-abbrev decreases_loop : tie.decreases-loop
+abbrev decreases_loop : tie.decreases-loop-n
 decreases_loop part at limit value₀ n₀ value n = limit - n
 
 loop_holds : tie.Need-loop-n-init invariant_loop decreases_loop

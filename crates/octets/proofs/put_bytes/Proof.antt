@@ -31,7 +31,7 @@ same_length : tie.Need-shape_of-buf
 same_length c = simp length-set
 
 returns : tie.Need-returns
-returns c = eight_laid c.args.buf.now c.args.at c.args.t3 (search rules) (search rules)
+returns c = eight_laid c.args.buf.now c.args.at c.args.eight (search rules) (search rules)
 
 pub put_bytes_spec : {M : Type 1} → statement M
 put_bytes_spec =

@@ -16,7 +16,7 @@ slice_write_buf_4 : tie.Need-bounds-buf-at-4
 slice_write_buf_4 c = simp length-set (omega arith)
 
 returns : tie.Need-returns
-returns c = four_laid c.args.buf.now c.args.at c.args.t3 (search rules) (search rules)
+returns c = four_laid c.args.buf.now c.args.at c.args.four (search rules) (search rules)
 
 pub put_four_spec : {M : Type 1} → statement M
 put_four_spec =

@@ -24,7 +24,7 @@ add_result : tie.Need-overflow_add-result
 add_result c = omega arith
 
 returns : tie.Need-returns
-returns c = let s = c in omega (arith, four_value s.args.t1 (search rules))
+returns c = let s = c in omega (arith, four_value s.args.b (search rules))
 
 pub u32_of_bytes_spec : {M : Type 1} → statement M
 u32_of_bytes_spec =

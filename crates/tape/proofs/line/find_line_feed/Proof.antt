@@ -11,10 +11,10 @@ use Rattle.tape.proofs.Scanning.{scan_end, scan_hit, scan_more, scan_past}
 use Rattle.tape.proofs.line.find_line_feed.Statement.{statement}
 use Rattle.tape.proofs.line.find_line_feed.Tie as tie
 
-abbrev invariant_loop : tie.invariant-loop
+abbrev invariant_loop : tie.invariant-loop-i
 invariant_loop tape from i₀ i = (from ≤ i) × (i ≤ length tape) × (seek_from is_line_feed tape from ≡ seek_from is_line_feed tape i)
 
-abbrev decreases_loop : tie.decreases-loop
+abbrev decreases_loop : tie.decreases-loop-i
 decreases_loop tape from i₀ i = length tape - i
 
 loop_holds : tie.Need-loop-i-init invariant_loop decreases_loop

@@ -9,10 +9,10 @@ use Rattle.tape.proofs.Scanning.{scan_end, scan_hit, scan_more}
 use Rattle.tape.proofs.line.first_line.Statement.{statement}
 use Rattle.tape.proofs.line.first_line.Tie as tie
 
-abbrev invariant_loop : tie.invariant-loop
+abbrev invariant_loop : tie.invariant-loop-i
 invariant_loop tape i₀ i = (i ≤ length tape) × (seek_from opens_tape tape 0 ≡ seek_from opens_tape tape i)
 
-abbrev decreases_loop : tie.decreases-loop
+abbrev decreases_loop : tie.decreases-loop-i
 decreases_loop tape i₀ i = length tape - i
 
 loop_holds : tie.Need-loop-i-init invariant_loop decreases_loop

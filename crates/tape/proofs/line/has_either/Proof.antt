@@ -9,10 +9,10 @@ use Rattle.tape.proofs.Scanning.{neither_next}
 use Rattle.tape.proofs.line.has_either.Statement.{statement}
 use Rattle.tape.proofs.line.has_either.Tie as tie
 
-abbrev invariant_loop : tie.invariant-loop
+abbrev invariant_loop : tie.invariant-loop-k
 invariant_loop bytes from one other found₀ k₀ found k = (k ≤ stretch) × (found ≡ false → Neither bytes one other from (from + k))
 
-abbrev decreases_loop : tie.decreases-loop
+abbrev decreases_loop : tie.decreases-loop-k
 decreases_loop bytes from one other found₀ k₀ found k = stretch - k
 
 loop_holds : tie.Need-loop-k-init invariant_loop decreases_loop

@@ -8,10 +8,10 @@ use Rattle.tape.proofs.Scanning.{neither_here, neither_on}
 use Rattle.tape.proofs.line.pass_stretches.Statement.{statement}
 use Rattle.tape.proofs.line.pass_stretches.Tie as tie
 
-abbrev invariant_loop : tie.invariant-loop
+abbrev invariant_loop : tie.invariant-loop-i
 invariant_loop bytes from one other i₀ i = (from ≤ i) × (i ≤ length bytes) × Neither bytes one other from i
 
-abbrev decreases_loop : tie.decreases-loop
+abbrev decreases_loop : tie.decreases-loop-i
 decreases_loop bytes from one other i₀ i = length bytes - i
 
 loop_holds : tie.Need-loop-i-init invariant_loop decreases_loop

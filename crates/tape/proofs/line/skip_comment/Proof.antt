@@ -11,10 +11,10 @@ use Rattle.tape.proofs.Lining.{gap_open, gap_return, gap_close, gap_inside, gap_
 use Rattle.tape.proofs.line.skip_comment.Statement.{statement}
 use Rattle.tape.proofs.line.skip_comment.Tie as tie
 
-abbrev invariant_loop : tie.invariant-loop
+abbrev invariant_loop : tie.invariant-loop-i
 invariant_loop line from i₀ i = (from ≤ i) × (i ≤ length line) × (gap_of true from (drop from line) ≡ gap_of true i (drop i line))
 
-abbrev decreases_loop : tie.decreases-loop
+abbrev decreases_loop : tie.decreases-loop-i
 decreases_loop line from i₀ i = length line - i
 
 loop_holds : tie.Need-loop-i-init invariant_loop decreases_loop

@@ -12,10 +12,10 @@ use Rattle.tape.proofs.Lining.{gap_end, gap_begin, gap_space, gap_word}
 use Rattle.tape.proofs.line.skip_gap.Statement.{statement}
 use Rattle.tape.proofs.line.skip_gap.Tie as tie
 
-abbrev invariant_loop : tie.invariant-loop
+abbrev invariant_loop : tie.invariant-loop-i
 invariant_loop line from i₀ i = (i ≤ length line) × (gap_of false from (drop from line) ≡ gap_of false i (drop i line)) × (from ≤ i)
 
-abbrev decreases_loop : tie.decreases-loop
+abbrev decreases_loop : tie.decreases-loop-i
 decreases_loop line from i₀ i = length line - i
 
 loop_holds : tie.Need-loop-i-init invariant_loop decreases_loop
