@@ -161,12 +161,7 @@ fn list_of(text: &[u8], list: &mut [u8; LONGEST]) -> usize
 }
 
 // What comes of the first n bytes.
-fn show_first<W: Write>(
-    out: &mut W,
-    list: &[u8; LONGEST],
-    n: usize,
-    k: usize,
-) -> io::Result<()>
+fn show_first<W: Write>(out: &mut W, list: &[u8; LONGEST], n: usize, k: usize) -> io::Result<()>
     requires { n ≤ 65_536 }
 {
     show(out, &list[..n], k)
