@@ -73,12 +73,12 @@ last_beyond p = rows.beyond (first_cut (600 ∷ 848 ∷ 1039 ∷ 1200 ∷ 1341 �
 -- THE EMPTY CUT LEFT OUT
 pub empty_left_out : Threaded first (cut_as first (600 ∷ 848 ∷ 1039 ∷ 1200 ∷ 1277 ∷ [])) → ⊥
 unfolding rule_of
-empty_left_out p = rows.not-reached (first_cut (600 ∷ 848 ∷ 1039 ∷ 1200 ∷ 1277 ∷ []) p).cuts
+empty_left_out p = rows.not_reached (first_cut (600 ∷ 848 ∷ 1039 ∷ 1200 ∷ 1277 ∷ []) p).cuts
 
 -- ONE EMPTY CUT TOO MANY
 pub empty_twice : Threaded first (cut_as first (600 ∷ 848 ∷ 1039 ∷ 1200 ∷ 1277 ∷ 1277 ∷ 1277 ∷ [])) → ⊥
 unfolding rule_of
-empty_twice p = rows.last-twice (first_cut (600 ∷ 848 ∷ 1039 ∷ 1200 ∷ 1277 ∷ 1277 ∷ 1277 ∷ []) p).cuts
+empty_twice p = rows.last_twice (first_cut (600 ∷ 848 ∷ 1039 ∷ 1200 ∷ 1277 ∷ 1277 ∷ 1277 ∷ []) p).cuts
 
 -- THE EMPTY CUT ON THE CREST
 pub empty_on_crest : Threaded first (cut_as first (600 ∷ 848 ∷ 1039 ∷ 1200 ∷ 1277 ∷ 0 ∷ [])) → ⊥

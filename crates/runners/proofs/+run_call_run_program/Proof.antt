@@ -46,7 +46,7 @@ abbrev run_program_below : ℕ → In 4 run-program-kinds.ps
 run_program_below t =
     and 4 run-program-kinds.ps (falls 4 run-program-kinds.ps ◌<◌ μ-run-program t) run-program.Pre
 
-abbrev run_call_Inv_loop : run-call-lts.invariant-loop
+abbrev run_call_Inv_loop : run-call-lts.invariant_loop
 run_call_Inv_loop tape table set places count first buf₀ program calls times now₀ n₀ buf now n =
     Going.Repeating (task_of tape table set first (length buf₀)) program calls times buf₀ now₀ buf now n
     × Ready (task_of tape table set first (length buf₀)) (length buf₀) places count
@@ -54,17 +54,17 @@ run_call_Inv_loop tape table set places count first buf₀ program calls times n
     × FoundAt tape first program
     × (calls ≡ 0 → ⊥)
 
-abbrev run_call_μ_loop : run-call-lts.decreases-loop
+abbrev run_call_μ_loop : run-call-lts.decreases_loop
 run_call_μ_loop tape table set places count first buf₀ program calls times now₀ n₀ buf now n = n
 
-abbrev run_program_Inv_loop : run-program-lts.invariant-loop
+abbrev run_program_Inv_loop : run-program-lts.invariant_loop
 run_program_Inv_loop tape table set places count first buf₀ program calls now₀ at₀ buf now at =
     Going.Going (task_of tape table set first (length buf₀)) program calls buf₀ now₀ buf now at
     × Ready (task_of tape table set first (length buf₀)) (length buf₀) places count
     × (now₀.blocks_left ≤ blocks_in_all)
     × FoundAt tape first program
 
-abbrev run_program_μ_loop : run-program-lts.decreases-loop
+abbrev run_program_μ_loop : run-program-lts.decreases_loop
 run_program_μ_loop tape table set places count first buf₀ program calls now₀ at₀ buf now at = now.blocks_left
 
 pub +run-call-run-program-spec : {M : Type 1} → statement M
@@ -86,7 +86,7 @@ pub +run-call-run-program-spec : {M : Type 1} → statement M
     (λ c. let s = c.before.before.before.before in
     let a = s.args in
     let n = s.requires.1 in (
-      Going.first-time a.tape.now a.table.now a.set a.first a.buf.now n.ready.header a.program a.calls a.times a.run n.fit c.if1.false,
+      Going.first_time a.tape.now a.table.now a.set a.first a.buf.now n.ready.header a.program a.calls a.times a.run n.fit c.if1.false,
       n.ready,
       n.few,
       n.there,
@@ -99,7 +99,7 @@ pub +run-call-run-program-spec : {M : Type 1} → statement M
     let s = c.before.before.before.before.before.before.before in
     let a = s.args in (
       omega (arith, s.requires.0, i.4),
-      Going.run-begins a.tape.now a.table.now a.set a.first a.buf.now i.1.header a.program a.calls a.times a.run i.0 c.before.loop-test.true i.3 i.1 i.2,
+      Going.run_begins a.tape.now a.table.now a.set a.first a.buf.now i.1.header a.program a.calls a.times a.run i.0 c.before.loop-test.true i.3 i.1 i.2,
     ))
     -- enum_told
     (λ c. search rules)
@@ -107,7 +107,7 @@ pub +run-call-run-program-spec : {M : Type 1} → statement M
     (λ c. let r = c.before.before.before.before in
     let i = r.before.before.before.loop.invariant in
     let a = r.before.before.before.before.before.before.before.before.args in
-    Going.size-once a.tape.now a.table.now a.set a.first a.buf.now i.1.header a.program a.calls a.times a.run i.0 r.before.before.loop-test.true r.run-program.ensures)
+    Going.size_once a.tape.now a.table.now a.set a.first a.buf.now i.1.header a.program a.calls a.times a.run i.0 r.before.before.loop-test.true r.run-program.ensures)
     -- returns-2
     (λ c. let r = c.before.before.before.before in
     let i = r.before.before.before.loop.invariant in
@@ -147,7 +147,7 @@ pub +run-call-run-program-spec : {M : Type 1} → statement M
     let a = s.args in
     let n = s.requires.1 in
     let e = ap (λ (x : Line). x.after) c.line_at_lem.ensures.0 in (
-      Going.start-at a.tape.now a.table.now a.set a.first a.buf.now n.ready.header a.program a.calls a.run n.fit n.few e c.line_at_lem.ensures.1.ends,
+      Going.start_at a.tape.now a.table.now a.set a.first a.buf.now n.ready.header a.program a.calls a.run n.fit n.few e c.line_at_lem.ensures.1.ends,
       n.ready,
       n.few,
       n.there,
@@ -155,14 +155,14 @@ pub +run-call-run-program-spec : {M : Type 1} → statement M
     -- take-step-requires
     (λ c κs. let i = c.before.loop.invariant in
     let a = c.before.before.before.before.before.before.args in
-    Going.step-needs a.tape.now a.table.now a.set a.first a.buf.now i.1.header a.program a.calls a.run i.0 i.3 i.1)
+    Going.step_needs a.tape.now a.table.now a.set a.first a.buf.now i.1.header a.program a.calls a.run i.0 i.3 i.1)
     -- enum_told
     (λ c. search rules)
     -- loop-less
     (λ c. let k = c.before.before.before.before.before in
     let i = k.before.before.loop.invariant in
     let a = k.before.before.before.before.before.before.before.args in
-    Going.less-on a.tape.now a.table.now a.set a.first a.buf.now i.1.header a.program a.calls a.run i.0 k.take_step.ensures c.enum_told.given.1)
+    Going.less_on a.tape.now a.table.now a.set a.first a.buf.now i.1.header a.program a.calls a.run i.0 k.take_step.ensures c.enum_told.given.1)
     -- loop-again
     (λ c. let k = c.before.before.before.before.before in
     let i = k.before.before.loop.invariant in
@@ -175,7 +175,7 @@ pub +run-call-run-program-spec : {M : Type 1} → statement M
     let i = k.before.before.loop.invariant in
     let a = k.before.before.before.before.before.before.before.args in
     let w = c.before in
-    Going.less-jump a.tape.now a.table.now a.set a.first a.buf.now i.1.header a.program a.calls a.run i.0 k.take_step.ensures w.onward.given.0.0 w.onward.given.1)
+    Going.less_jump a.tape.now a.table.now a.set a.first a.buf.now i.1.header a.program a.calls a.run i.0 k.take_step.ensures w.onward.given.0.0 w.onward.given.1)
     -- loop-again, of a jump
     (λ c. let k = c.before.before.before.before.before.before in
     let i = k.before.before.loop.invariant in
@@ -191,7 +191,7 @@ pub +run-call-run-program-spec : {M : Type 1} → statement M
     let w = c.before.before in
     let s = k.before.before.before.before.before.before.before in (
       omega (arith, s.requires.0),
-      Going.call-begins a.tape.now a.table.now a.set a.first a.buf.now i.1.header a.program a.calls a.run i.0 k.take_step.ensures w.onward2.given.0.0 w.onward2.given.0.1.0 w.onward2.given.1 i.1 i.2,
+      Going.call_begins a.tape.now a.table.now a.set a.first a.buf.now i.1.header a.program a.calls a.run i.0 k.take_step.ensures w.onward2.given.0.0 w.onward2.given.0.1.0 w.onward2.given.1 i.1 i.2,
     ))
     -- enum-told-2
     (λ c. search rules)
@@ -201,35 +201,35 @@ pub +run-call-run-program-spec : {M : Type 1} → statement M
     let a = k.before.before.before.before.before.before.before.args in
     let r = c.before.before.before.before.before in
     let w = r.before.before.before in
-    Going.call-left a.tape.now a.table.now a.set a.first a.buf.now i.1.header a.program a.calls a.run i.0 k.take_step.ensures w.onward2.given.0.0 w.onward2.given.0.1.0 w.onward2.given.1 r.run_call.ensures)
+    Going.call_left a.tape.now a.table.now a.set a.first a.buf.now i.1.header a.program a.calls a.run i.0 k.take_step.ensures w.onward2.given.0.0 w.onward2.given.0.1.0 w.onward2.given.1 r.run_call.ensures)
     -- loop-again-3
     (λ c. let k = c.before.before.before.before.before.before.before.before.before.before.before.before.before in
     let i = k.before.before.loop.invariant in
     let a = k.before.before.before.before.before.before.before.args in
     let r = c.before.before.before.before.before in
     let w = r.before.before.before in
-    (Going.call-returned a.tape.now a.table.now a.set a.first a.buf.now i.1.header a.program a.calls a.run i.0 k.take_step.ensures w.onward2.given.0.0 w.onward2.given.0.1.0 w.onward2.given.1 r.run_call.ensures c.enum-told2.given.1, i.1, i.2, i.3))
+    (Going.call_returned a.tape.now a.table.now a.set a.first a.buf.now i.1.header a.program a.calls a.run i.0 k.take_step.ensures w.onward2.given.0.0 w.onward2.given.0.1.0 w.onward2.given.1 r.run_call.ensures c.enum-told2.given.1, i.1, i.2, i.3))
     -- same-length
     (λ c. let k = c.before.before.before.before.before.before.before.before.before.before.before.before in
     let i = k.before.before.loop.invariant in
     let a = k.before.before.before.before.before.before.before.args in
     let r = c.before.before.before.before in
     let w = r.before.before.before in
-    Going.call-size a.tape.now a.table.now a.set a.first a.buf.now i.1.header a.program a.calls a.run i.0 k.take_step.ensures w.onward2.given.0.0 w.onward2.given.0.1.0 w.onward2.given.1 r.run_call.ensures)
+    Going.call_size a.tape.now a.table.now a.set a.first a.buf.now i.1.header a.program a.calls a.run i.0 k.take_step.ensures w.onward2.given.0.0 w.onward2.given.0.1.0 w.onward2.given.1 r.run_call.ensures)
     -- returns
     (λ c. let k = c.before.before.before.before.before.before.before.before.before.before.before.before in
     let i = k.before.before.loop.invariant in
     let a = k.before.before.before.before.before.before.before.args in
     let r = c.before.before.before.before in
     let w = r.before.before.before in
-    Going.call-broke a.tape.now a.table.now a.set a.first a.buf.now i.1.header a.program a.calls a.run i.0 k.take_step.ensures w.onward2.given.0.0 w.onward2.given.0.1.0 w.onward2.given.1 r.run_call.ensures c.match2.keys2)
+    Going.call_broke a.tape.now a.table.now a.set a.first a.buf.now i.1.header a.program a.calls a.run i.0 k.take_step.ensures w.onward2.given.0.0 w.onward2.given.0.1.0 w.onward2.given.1 r.run_call.ensures c.match2.keys2)
     -- enum-told-3
     (λ c. search rules)
     -- same-length-2
     (λ c. let k = c.before.before.before.before.before in
     let i = k.before.before.loop.invariant in
     let a = k.before.before.before.before.before.before.before.args in
-    Going.size-after a.tape.now a.table.now a.set a.first a.buf.now i.1.header a.program a.calls a.run i.0 k.take_step.ensures)
+    Going.size_after a.tape.now a.table.now a.set a.first a.buf.now i.1.header a.program a.calls a.run i.0 k.take_step.ensures)
     -- returns-2
     (λ c. let k = c.before.before.before.before.before in
     let i = k.before.before.loop.invariant in
@@ -241,7 +241,7 @@ pub +run-call-run-program-spec : {M : Type 1} → statement M
     (λ c. let k = c.before.before.before.before.before in
     let i = k.before.before.loop.invariant in
     let a = k.before.before.before.before.before.before.before.args in
-    Going.size-after a.tape.now a.table.now a.set a.first a.buf.now i.1.header a.program a.calls a.run i.0 k.take_step.ensures)
+    Going.size_after a.tape.now a.table.now a.set a.first a.buf.now i.1.header a.program a.calls a.run i.0 k.take_step.ensures)
     -- returns-3
     (λ c. let k = c.before.before.before.before.before in
     let i = k.before.before.loop.invariant in
@@ -253,7 +253,7 @@ pub +run-call-run-program-spec : {M : Type 1} → statement M
     (λ c. let k = c.before.before.before.before.before.before in
     let i = k.before.before.loop.invariant in
     let a = k.before.before.before.before.before.before.before.args in
-    Going.size-after a.tape.now a.table.now a.set a.first a.buf.now i.1.header a.program a.calls a.run i.0 k.take_step.ensures)
+    Going.size_after a.tape.now a.table.now a.set a.first a.buf.now i.1.header a.program a.calls a.run i.0 k.take_step.ensures)
     -- returns-4
     (λ c. let k = c.before.before.before.before.before.before in
     let i = k.before.before.loop.invariant in
