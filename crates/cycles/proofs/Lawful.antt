@@ -11,18 +11,18 @@ use Rattle.moves.specs.Form.{AllFitting}
 use Rattle.turning.specs.declared.Turning as turns
 use Rattle.turning.specs.Turning as turn
 use Rattle.turning.proofs.Asked.{long_enough}
-use Rattle.turning.proofs.Counts as turn-laws
+use Rattle.turning.proofs.Counts as turn_laws
 use Rattle.threading.specs.declared.Thread.{Thread}
 use Rattle.threading.specs.Threading as thread
-use Rattle.threading.proofs.Counts as thread-laws
+use Rattle.threading.proofs.Counts as thread_laws
 use Rattle.grooving.specs.declared.Groove.{Groove}
 use Rattle.grooving.specs.Grooving as groove
-use Rattle.grooving.proofs.Counts as groove-laws
+use Rattle.grooving.proofs.Counts as groove_laws
 use Rattle.grooving.proofs.Rows.{few_steps, few_plunge}
 use Rattle.drilling.specs.declared.Bore.{Bore}
 use Rattle.drilling.specs.Drilling as drill
 use Rattle.drilling.proofs.Asked.{stroke_fits}
-use Rattle.drilling.proofs.Counts as drill-laws
+use Rattle.drilling.proofs.Counts as drill_laws
 use Rattle.drilling.proofs.Each.{Stands, drilling_fitting}
 use Rattle.cycles.specs.declared.Cycle.{Cycle}
 use Rattle.cycles.specs.declared.Cycle.TheVariants.{Turning, Threading, Grooving, Drilling}

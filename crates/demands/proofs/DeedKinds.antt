@@ -17,9 +17,9 @@ use Rattle.axes.specs.Goes.{rapid_to, feed_to, thread_to, dwell_at}
 use Rattle.turning.specs.Turning as turn
 use Rattle.turning.specs.declared.Turning as turns
 use Rattle.turning.specs.declared.Pass as passes
-use Rattle.threading.specs.Threading as thread-of
+use Rattle.threading.specs.Threading as thread_of
 use Rattle.threading.specs.declared.Thread.{Thread}
-use Rattle.threading.specs.declared.Pass as thread-passes
+use Rattle.threading.specs.declared.Pass as thread_passes
 use Rattle.grooving.specs.Grooving as groove
 use Rattle.grooving.specs.declared.Groove.{Groove}
 use Rattle.grooving.proofs.Each.{grooving_every}

@@ -26,7 +26,7 @@ use Rattle.depths.specs.Promised.{Rises}
 use Rattle.cuts.specs.Cuts as cut
 use Rattle.depths.proofs.Rows.{starts}
 use Rattle.depths.proofs.Kept.{row_rises}
-use Rattle.cuts.proofs.Opened as cut-laws
+use Rattle.cuts.proofs.Opened as cut_laws
 use Rattle.threading.specs.declared.Thread.{Thread}
 use Rattle.threading.specs.declared.Pass.{Pass}
 use Rattle.threads.specs.declared.Stage.{Stage}

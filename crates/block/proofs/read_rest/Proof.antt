@@ -105,28 +105,28 @@ module _ (e : tie.After-lacks_point-lacks invariant_loop decreases_loop) where
   abbrev word_in : tie.In-Word invariant_loop decreases_loop
   word_in = e.before.before.before.before.before.before
   less :
-      let l = word_in.before.before.before in
-      length l.args.line.now - word_in.in-Word.end < length l.args.line.now - l.loop.i
+      let l = word_in in
+      length l.args.line.now - word_in.in-Word.end < length l.args.line.now - l.loop-b.i
   less = let p = place word_in in omega arith
 
   again : {b : Block} →
-      let l = word_in.before.before.before in
+      let l = word_in in
       let a = l.args in
-      b ≡ put_word l.loop.b word_in.in-Word.w → invariant_loop a.line.now a.from b a.from b word_in.in-Word.end
+      b ≡ put_word l.loop-b.b word_in.in-Word.w → invariant_loop a.line.now a.from b a.from b word_in.in-Word.end
   again {b} h =
-      let n = word_in.before.before in
-      let l = n.before in
-      let s = l.before.before.before in
+      let n = word_in in
+      let l = n in
+      let s = l in
       let p = place word_in in
-      let k : b.words ≡ l.loop.b.words + 1 = ap (λ (x : Block). x.words) h ∙ put_words l.loop.b word_in.in-Word.w in (
+      let k : b.words ≡ l.loop-b.b.words + 1 = ap (λ (x : Block). x.words) h ∙ put_words l.loop-b.b word_in.in-Word.w in (
         p.1,
         omega arith,
-        l.loop.inv.2 ∙ rest_word s.args.line.now l.loop.i l.loop.inv.0 l.loop.b (sym n.next_word.ensures.0 ∙ word_in.in-Word.is)
-            (sym e.is_program_address.ensures ∙ e.if-is_program_address.left) ∙ ap (λ (x : Block). gather x (words_from s.args.line.now word_in.in-Word.end)) (sym h),
+        l.loop-b.invariant.2 ∙ rest_word s.args.line.now l.loop-b.i l.loop-b.invariant.0 l.loop-b.b (sym n.next_word-next.ensures.0 ∙ word_in.in-Word.is)
+            (sym e.is_program_address.ensures ∙ e.if-is_program_address.false) ∙ ap (λ (x : Block). gather x (words_from s.args.line.now word_in.in-Word.end)) (sym h),
       )
 
 loop_less : tie.Need-loop-b-smaller-in-At invariant_loop decreases_loop
-loop_less c = less c.before.before.before
+loop_less c = less c.before
 
 loop_again : tie.Need-loop-b-preserved-in-At invariant_loop decreases_loop
 loop_again c =
@@ -136,7 +136,7 @@ loop_again c =
     again e.before (stored b w c.in-At.k (same_value e.before.before.before) e.is_end-ends.ensures e.lacks_point-lacks.ensures ∙ put_by b w (sym e.slot_of-slot.ensures.0 ∙ c.in-At.is))
 
 loop_less_2 : tie.Need-loop-b-smaller-in-Late invariant_loop decreases_loop
-loop_less_2 c = less c.before.before
+loop_less_2 c = less c.before
 
 loop_again_2 : tie.Need-loop-b-preserved-in-Late invariant_loop decreases_loop
 loop_again_2 c =
@@ -146,7 +146,7 @@ loop_again_2 c =
     again e.before (noted b w true b.unknown e.is_end-ends.ensures e.lacks_point-lacks.ensures ∙ put_by b w {k = Late} (sym e.slot_of-slot.ensures.0 ∙ c.in-Late.is))
 
 loop_less_3 : tie.Need-loop-b-smaller invariant_loop decreases_loop
-loop_less_3 c = less c.before.before
+loop_less_3 c = less c.before
 
 loop_again_3 : tie.Need-loop-b-preserved invariant_loop decreases_loop
 loop_again_3 c =

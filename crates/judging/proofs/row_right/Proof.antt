@@ -38,10 +38,10 @@ some c = omega (arith, whole_what c.args.v, c.record_size-size.ensures)
 sub_front_right : tie.Need-slice_bounds-front_right-count invariant_loop decreases_loop
 sub_front_right c = let l = lies c in search rules
 
-part_front_right_start : tie.Need-slice-bounds-front-right-start invariant_loop decreases_loop
+part_front_right_start : tie.Need-slice_bounds-front_right-start invariant_loop decreases_loop
 part_front_right_start c = let l = lies c in search rules
 
-part_front_right_end : tie.Need-slice-bounds-front-right-end invariant_loop decreases_loop
+part_front_right_end : tie.Need-slice_bounds-front_right-end invariant_loop decreases_loop
 part_front_right_end c = let l = lies c in search rules
 
 front_right_requires : tie.Need-front_right-requires invariant_loop decreases_loop

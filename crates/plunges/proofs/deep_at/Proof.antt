@@ -40,13 +40,13 @@ module _ (c : tie.After-side_of-side) where
 
   -- and to any side, where there is no way
   nowhere : c.side_of-side.result ≡ Zero → from +ℤ along Plus begun.args.t ≡ deep_at begun.args.g begun.args.t
-  nowhere e = no_step from Plus Zero (omega (arith, begun.pre, no_way (begun.args.g.depth.target -ℤ begun.args.g.depth.start) (sym side_is ∙ e))) ∙ told e
+  nowhere e = no_step from Plus Zero (omega (arith, begun.requires, no_way (begun.args.g.depth.target -ℤ begun.args.g.depth.start) (sym side_is ∙ e))) ∙ told e
 
   fits : {z : ℤ} → z ≡ deep_at begun.args.g begun.args.t → SFits w32 z
   fits e =
       let f : SFits w32 begun.args.g.depth.start = search rules in
       let g : SFits w32 begun.args.g.depth.target = search rules in
-      subst (SFits w32) (sym e) (toward f g begun.args.t begun.pre)
+      subst (SFits w32) (sym e) (toward f g begun.args.t begun.requires)
 
 step_requires : tie.Need-step-requires
 step_requires c κs = let k = c in fits k.before (told k.before c.in-Plus.is)

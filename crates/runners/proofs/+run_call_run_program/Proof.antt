@@ -8,20 +8,20 @@ use borrow.Author.Rules.{rules}
 use borrow.Fn.Kinds.{In}
 use borrow.Fn.PlainCycle.{Measures, is, falls, and}
 use Rattle.tape.specs.declared.line.Line.{Line}
-use Rattle.tape.proofs.line.line_at.Reads as line-at-reads
+use Rattle.tape.proofs.line.line_at.Reads as line_at_reads
 use Rattle.ahead.specs.Ahead.{FoundAt}
 use Rattle.ahead.proofs.Places.{found_within}
 use Rattle.taking.specs.Steps.{task_of}
 use Rattle.steps.specs.Meets.{Ready}
-use Rattle.steps.proofs.step.take_step.Reads as take-step-reads
+use Rattle.steps.proofs.step.take_step.Reads as take_step_reads
 use Rattle.runners.specs.Runs.{blocks_in_all}
 use Rattle.runners.proofs.Going
 use Rattle.runners.proofs.run_call.Reads as run_call
-use Rattle.runners.proofs.run_call.Kinds as run-call-kinds
-use Rattle.runners.proofs.+run_call_run_program.Lts-run_call as run-call-lts
-use Rattle.runners.proofs.run_program.Reads as run-program
-use Rattle.runners.proofs.run_program.Kinds as run-program-kinds
-use Rattle.runners.proofs.+run_call_run_program.Lts-run_program as run-program-lts
+use Rattle.runners.proofs.run_call.Kinds as run_call_kinds
+use Rattle.runners.proofs.+run_call_run_program.Lts-run_call as run_call_lts
+use Rattle.runners.proofs.run_program.Reads as run_program
+use Rattle.runners.proofs.run_program.Kinds as run_program_kinds
+use Rattle.runners.proofs.+run_call_run_program.Lts-run_program as run_program_lts
 use Rattle.runners.proofs.+run_call_run_program.{statement}
 use Rattle.runners.proofs.+run_call_run_program.Tie.{close}
 
