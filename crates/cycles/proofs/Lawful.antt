@@ -74,8 +74,8 @@ groove_lawful : (g : Groove) → groove.wrong g ≡ false → Known (Grooving g)
 groove_lawful g e k =
     let depth : groove_laws.Stands g.depth = record { start = k.0.0; target = k.0.1 } in
     let width : groove_laws.Stands g.width = record { start = k.1.0; target = k.1.1 } in record {
-      few = subst (λ (n : ℕ). n < 1_000_000_000_000_000_000) (sym (groove_laws.grooving-length g e)) (few_groove g e k);
-      fitting = groove_laws.grooving-fitting g depth width k.2 k.3 e;
+      few = subst (λ (n : ℕ). n < 1_000_000_000_000_000_000) (sym (groove_laws.grooving_length g e)) (few_groove g e k);
+      fitting = groove_laws.grooving_fitting g depth width k.2 k.3 e;
     }
 
 -- ---- a bore
