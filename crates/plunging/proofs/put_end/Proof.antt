@@ -34,7 +34,7 @@ cut_of p = p.before.before.before.before
 abbrev behind_cut_lem : tie.After-put_record → List ℕ
 behind_cut_lem p =
     let a = (start_of (cut_of p)).args in
-    put_mid a.first (length a.buf.now - a.first) a.buf.now p.put_record.new.0
+    put_mid a.first (length a.buf.now - a.first) a.buf.now p.put_record.new.part
 
 cut_written : (p : tie.After-put_record)
     → (let n = cut_of p in let a = (start_of n).args in
@@ -61,7 +61,7 @@ dwell_written n =
 abbrev dwell_of : tie.After-go_out-leaving → tie.After-put_dwell-rested
 dwell_of n = n.before.before.before.before
 
-out_room : (n : tie.After-go_out-leaving) → (let d = dwell_of n in d.put_dwell-rested.result.at + record_size ≤ length d.put_dwell-rested.last.buf)
+out_room : (n : tie.After-go_out-leaving) → (let d = dwell_of n in d.put_dwell-rested.result.at + record_size ≤ length d.put_dwell-rested.new.buf)
 out_room n =
     let d = dwell_of n in
     written_room (start_of (cut_of (wrote_cut d))).requires.3 (dwell_written d) n.go_out-leaving.result.«record» _ n.go_out-leaving.ensures.0.first
@@ -72,7 +72,7 @@ out_of p = p.before.before.before.before
 abbrev behind_out : tie.After-put_record-2 → List ℕ
 behind_out p =
     let d = dwell_of (out_of p) in
-    put_mid d.put_dwell-rested.result.at (length d.put_dwell-rested.last.buf - d.put_dwell-rested.result.at) d.put_dwell-rested.last.buf p.put-record2.new.0
+    put_mid d.put_dwell-rested.result.at (length d.put_dwell-rested.new.buf - d.put_dwell-rested.result.at) d.put_dwell-rested.new.buf p.put_record-2.new.part
 
 out_written : (p : tie.After-put_record-2)
     → (let n = out_of p in let d = dwell_of n in let a = (start_of (cut_of (wrote_cut d))).args in
@@ -83,7 +83,7 @@ out_written p =
     let s = start_of (cut_of (wrote_cut d)) in
     let r = n.go_out-leaving.result.«record» in
     one_written s.requires.3 (dwell_written d) r _ n.go_out-leaving.ensures.0.first
-    (lent d.put_dwell-rested.last.buf d.put_dwell-rested.result.at (record_bytes (listed s.args.origin r)) p.put_record-2.new.part p.put_record-2.ensures)
+    (lent d.put_dwell-rested.new.buf d.put_dwell-rested.result.at (record_bytes (listed s.args.origin r)) p.put_record-2.new.part p.put_record-2.ensures)
 
 -- fewer records are left
 fewer : (n : tie.After-go_out-leaving) → length (rest_of n.go_out-leaving.result.rest) < length (rest_of (start_of (cut_of (wrote_cut (dwell_of n)))).args.c)

@@ -50,7 +50,7 @@ loop_holds c = let s = c in (s.requires.0, s.requires.1, none_written _ _ _ _)
 loop2_holds : tie.Need-loop-cutting-init invariant_loop2 decreases_loop2 invariant_loop decreases_loop
 loop2_holds c =
     let l = c in
-    (l.loop-origin.invariant.0, cut_next_is l.loop-origin.left l.loop-origin.invariant.1 (sym c.is_over.ensures ∙ not-true _ c.loop-origin-test.true), none_written _ _ _ _)
+    (l.loop-origin.invariant.0, cut_next_is l.loop-origin.left l.loop-origin.invariant.1 (sym c.is_over.ensures ∙ c.loop-origin-test.true), none_written _ _ _ _)
 
 next_cut_requires : tie.Need-next_cut-cutting-requires invariant_loop2 decreases_loop2 invariant_loop decreases_loop
 next_cut_requires c κs = (c.loop-cutting.invariant.0, sym c.is_before_cut_and_back.ensures ∙ c.loop-cutting-test.true)
@@ -132,7 +132,7 @@ same_length c =
 returns : tie.Need-returns invariant_loop2 decreases_loop2 invariant_loop decreases_loop
 returns c =
     let l = c in
-    let none = rest_none l.loop-origin.left (sym c.is_over.ensures ∙ not-false _ c.loop-origin-test.false) in
+    let none = rest_none l.loop-origin.left (sym c.is_over.ensures ∙ c.loop-origin-test.false) in
     let room = l.requires.2 in
     (written_end room l.loop-origin.invariant.2 none, all_written room l.loop-origin.invariant.2 none)
 
