@@ -6,6 +6,7 @@ ghost use Rattle.std.specs.Prelude.{◌≡◌, ◌≤◌, length};
 ghost use Rattle.octets.specs.Bytes.{laid};
 ghost use Rattle.listmoves.specs.Printed.{fresh_buffer, printed, text_size};
 
+use demands::interpreter;
 use libc::{STDIN_FILENO, STDOUT_FILENO};
 
 // The buffer that is lent: the header and as many records as a list may have.

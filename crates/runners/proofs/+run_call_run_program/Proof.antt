@@ -11,7 +11,7 @@ use Rattle.tape.specs.declared.line.Line.{Line}
 use Rattle.tape.proofs.line.line_at.Reads as line_at_reads
 use Rattle.ahead.specs.Ahead.{FoundAt}
 use Rattle.ahead.proofs.Places.{found_within}
-use Rattle.taking.specs.Steps.{task_of}
+use Rattle.steps.specs.of_taking.Steps.{task_of}
 use Rattle.steps.specs.Meets.{Ready}
 use Rattle.steps.proofs.step.take_step.Reads as take_step_reads
 use Rattle.runners.specs.Runs.{blocks_in_all}
