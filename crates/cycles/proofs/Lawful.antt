@@ -40,19 +40,19 @@ pub record Lawful (c : Cycle) : Type 0 where
 turning_lawful : (c : turns.Turning) → turn.too_short c ≡ false → Known (Turning c) → Lawful (Turning c)
 turning_lawful c e k =
     let long = long_enough c e in
-    let infeed : turn-laws.Stands c.infeed = record { start = k.0.0; target = k.0.1 } in
-    let path : turn-laws.Stands c.path = record { start = k.1.0; target = k.1.1 } in record {
-      few = omega (arith, turn-laws.few_turning c infeed long.0, turn-laws.turning_length c long.0);
-      fitting = turn-laws.turning_fitting c infeed path k.2 long.0 long.1;
+    let infeed : turn_laws.Stands c.infeed = record { start = k.0.0; target = k.0.1 } in
+    let path : turn_laws.Stands c.path = record { start = k.1.0; target = k.1.1 } in record {
+      few = omega (arith, turn_laws.few_turning c infeed long.0, turn_laws.turning_length c long.0);
+      fitting = turn_laws.turning_fitting c infeed path k.2 long.0 long.1;
     }
 
 -- ---- a thread
 thread_lawful : (t : Thread) → thread.wrong t ≡ false → Known (Threading t) → Lawful (Threading t)
 thread_lawful t e k =
-    let infeed : thread-laws.Stands t.infeed = record { start = k.0.0; target = k.0.1 } in
-    let path : thread-laws.Stands t.path = record { start = k.1.0; target = k.1.1 } in record {
-      few = omega (arith, thread-laws.few_threading t k.3 e, thread-laws.threading_length t e);
-      fitting = thread-laws.threading_fitting t infeed path k.2 k.3 e;
+    let infeed : thread_laws.Stands t.infeed = record { start = k.0.0; target = k.0.1 } in
+    let path : thread_laws.Stands t.path = record { start = k.1.0; target = k.1.1 } in record {
+      few = omega (arith, thread_laws.few_threading t k.3 e, thread_laws.threading_length t e);
+      fitting = thread_laws.threading_fitting t infeed path k.2 k.3 e;
     }
 
 -- ---- a groove
@@ -82,7 +82,7 @@ groove_lawful g e k =
 bore_lawful : (b : Bore) → drill.wrong b ≡ false → Known (Drilling b) → Lawful (Drilling b)
 bore_lawful b e k =
     let stands : Stands b = record { x = k.0; start = k.1.0; target = k.1.1; f = k.2; dwell = k.3 } in record {
-      few = omega (arith, drill-laws.drilling_length b e, drill-laws.few_records b e, stroke_fits b k.1.0 k.1.1);
+      few = omega (arith, drill_laws.drilling_length b e, drill_laws.few_records b e, stroke_fits b k.1.0 k.1.1);
       fitting = drilling_fitting b stands e;
     }
 

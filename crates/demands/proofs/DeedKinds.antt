@@ -86,7 +86,7 @@ module _ (P : Record → Type 0) (h : OfKinds P) where
   unfolding turn.turning
   turning_each c = turn_passes (turn.pass_for c) _ c.infeed.start (turn.row c)
 
-  thread_passes_each : (p : thread-passes.Pass) (ls : List ℤ) → Every P (thread_of_lem.passes p ls)
+  thread_passes_each : (p : thread_passes.Pass) (ls : List ℤ) → Every P (thread_of_lem.passes p ls)
   unfolding thread_of_lem.passes thread_of_lem.pass_on
   thread_passes_each p [] = tt
   thread_passes_each p (l ∷ ls) =

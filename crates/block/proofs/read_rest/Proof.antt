@@ -104,6 +104,7 @@ element_write_b c = slot_in c
 module _ (e : tie.After-lacks_point-lacks invariant_loop decreases_loop) where
   abbrev word_in : tie.In-Word invariant_loop decreases_loop
   word_in = e.before.before.before.before.before.before
+
   less :
       let l = word_in in
       length l.args.line.now - word_in.in-Word.end < length l.args.line.now - l.loop-b.i

@@ -40,7 +40,7 @@ pass_of p = p.before.before.before.before.before.before
 abbrev halfway : tie.After-put_two invariant_loop decreases_loop → List ℕ
 halfway p =
     let l = loop_of (pass_of p) in
-    put_mid l.loop-origin.at (length l.loop-origin.buf - l.loop-origin.at) l.loop-origin.buf p.put_two.new.0
+    put_mid l.loop-origin.at (length l.loop-origin.buf - l.loop-origin.at) l.loop-origin.buf p.put_two.new.part
 
 half : (p : tie.After-put_two invariant_loop decreases_loop)
     → (let n = pass_of p in let l = loop_of n in let s = l in let r = n.next_pass-passed.result in
@@ -65,7 +65,7 @@ loop_holds c = let s = c in (s.requires.0, s.requires.1, none_written _ _ _ _)
 next_pass_requires : tie.Need-next_pass-passed-requires invariant_loop decreases_loop
 next_pass_requires c κs =
     let l = c in
-    (l.loop-origin.invariant.0, l.loop-origin.invariant.1, sym c.is_over.ensures ∙ not-true _ c.loop-origin-test.true)
+    (l.loop-origin.invariant.0, l.loop-origin.invariant.1, sym c.is_over.ensures ∙ c.loop-origin-test.true)
 
 sub_put_two : tie.Need-slice_bounds-put_two-count invariant_loop decreases_loop
 sub_put_two c = omega (arith, has_room c.before.before.before.before)
@@ -136,7 +136,7 @@ same_length c =
 returns : tie.Need-returns invariant_loop decreases_loop
 returns c =
     let l = c in
-    let none = rest_none l.loop-origin.left (sym c.is_over.ensures ∙ not-false _ c.loop-origin-test.false) in
+    let none = rest_none l.loop-origin.left (sym c.is_over.ensures ∙ c.loop-origin-test.false) in
     let room = l.requires.2 in
     (written_end room l.loop-origin.invariant.2 none, all_written room l.loop-origin.invariant.2 none)
 

@@ -22,6 +22,7 @@ no_step a s r {t} e = subst (λ (n : ℕ). a +ℤ along s n ≡ a +ℤ along r n
 module _ (c : tie.After-side_of-side) where
   abbrev begun : tie.Start
   begun = c.before.before.before.before
+
   abbrev from : ℤ
   from = to_z w32 (of_z w32 begun.args.g.depth.start)
 

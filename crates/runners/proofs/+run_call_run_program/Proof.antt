@@ -25,28 +25,28 @@ use Rattle.runners.proofs.+run_call_run_program.Lts-run_program as run_program_l
 use Rattle.runners.proofs.+run_call_run_program.{statement}
 use Rattle.runners.proofs.+run_call_run_program.Tie.{close}
 
-abbrev μ-run-call : Measures 4 run-call-kinds.ps ℕ
+abbrev μ-run-call : Measures 4 run_call_kinds.ps ℕ
 μ-run-call κs a = a.1.1.1.1.1.1.1.1.0 + a.1.1.1.1.1.1.1.1.0
 
-abbrev μ-run-program : Measures 4 run-program-kinds.ps ℕ
+abbrev μ-run-program : Measures 4 run_program_kinds.ps ℕ
 μ-run-program κs a = a.1.1.1.1.1.1.1.1.0 + a.1.1.1.1.1.1.1.1.0 + 1
 
-abbrev run_call_at : ℕ → In 4 run-call-kinds.ps
-run_call_at t = and 4 run-call-kinds.ps (is 4 run-call-kinds.ps μ-run-call t) run_call.Pre
+abbrev run_call_at : ℕ → In 4 run_call_kinds.ps
+run_call_at t = and 4 run_call_kinds.ps (is 4 run_call_kinds.ps μ-run-call t) run_call.Pre
 
-abbrev run_call_below : ℕ → In 4 run-call-kinds.ps
+abbrev run_call_below : ℕ → In 4 run_call_kinds.ps
 run_call_below t =
-    and 4 run-call-kinds.ps (falls 4 run-call-kinds.ps ◌<◌ μ-run-call t) run_call.Pre
+    and 4 run_call_kinds.ps (falls 4 run_call_kinds.ps ◌<◌ μ-run-call t) run_call.Pre
 
-abbrev run_program_at : ℕ → In 4 run-program-kinds.ps
+abbrev run_program_at : ℕ → In 4 run_program_kinds.ps
 run_program_at t =
-    and 4 run-program-kinds.ps (is 4 run-program-kinds.ps μ-run-program t) run-program.Pre
+    and 4 run_program_kinds.ps (is 4 run_program_kinds.ps μ-run-program t) run_program.Pre
 
-abbrev run_program_below : ℕ → In 4 run-program-kinds.ps
+abbrev run_program_below : ℕ → In 4 run_program_kinds.ps
 run_program_below t =
-    and 4 run-program-kinds.ps (falls 4 run-program-kinds.ps ◌<◌ μ-run-program t) run-program.Pre
+    and 4 run_program_kinds.ps (falls 4 run_program_kinds.ps ◌<◌ μ-run-program t) run_program.Pre
 
-abbrev run_call_Inv_loop : run-call-lts.invariant_loop
+abbrev run_call_Inv_loop : run_call_lts.invariant_loop
 run_call_Inv_loop tape table set places count first buf₀ program calls times now₀ n₀ buf now n =
     Going.Repeating (task_of tape table set first (length buf₀)) program calls times buf₀ now₀ buf now n
     × Ready (task_of tape table set first (length buf₀)) (length buf₀) places count
@@ -54,23 +54,23 @@ run_call_Inv_loop tape table set places count first buf₀ program calls times n
     × FoundAt tape first program
     × (calls ≡ 0 → ⊥)
 
-abbrev run_call_μ_loop : run-call-lts.decreases_loop
+abbrev run_call_μ_loop : run_call_lts.decreases_loop
 run_call_μ_loop tape table set places count first buf₀ program calls times now₀ n₀ buf now n = n
 
-abbrev run_program_Inv_loop : run-program-lts.invariant_loop
+abbrev run_program_Inv_loop : run_program_lts.invariant_loop
 run_program_Inv_loop tape table set places count first buf₀ program calls now₀ at₀ buf now at =
     Going.Going (task_of tape table set first (length buf₀)) program calls buf₀ now₀ buf now at
     × Ready (task_of tape table set first (length buf₀)) (length buf₀) places count
     × (now₀.blocks_left ≤ blocks_in_all)
     × FoundAt tape first program
 
-abbrev run_program_μ_loop : run-program-lts.decreases_loop
+abbrev run_program_μ_loop : run_program_lts.decreases_loop
 run_program_μ_loop tape table set places count first buf₀ program calls now₀ at₀ buf now at = now.blocks_left
 
 pub +run-call-run-program-spec : {M : Type 1} → statement M
-+run-call-run-program-spec = close μ-run-call μ-run-program (λ t. run-call-lts.spec (
++run-call-run-program-spec = close μ-run-call μ-run-program (λ t. run_call_lts.spec (
   run_program_below t,
-  run-program.Post,
+  run_program.Post,
 )
     (run_call_at t)
     run_call.Post
@@ -128,16 +128,16 @@ pub +run-call-run-program-spec : {M : Type 1} → statement M
     (λ c. let i = c.before.loop.invariant in
     let a = c.before.before.before.before.before.before.args in
     Going.all a.tape.now a.table.now a.set a.first a.buf.now i.1.header a.program a.calls a.times a.run i.0 (omega (arith, c.loop-test.false))))
-    λ t. run-program-lts.spec (
-      line-at-reads.Asked,
-      line-at-reads.Learnt,
-      take-step-reads.Asked,
-      take-step-reads.Learnt,
+    λ t. run_program_lts.spec (
+      line_at_reads.Asked,
+      line_at_reads.Learnt,
+      take_step_reads.Asked,
+      take_step_reads.Learnt,
       run_call_below t,
       run_call.Post,
     )
     (run_program_at t)
-    run-program.Post
+    run_program.Post
     run_program_Inv_loop
     run_program_μ_loop
     -- line-at-requires

@@ -254,7 +254,7 @@ module _ (w : tie.After-holds-in-BlockLine invariant_loop decreases_loop) where
   h4 = w.before.before
 
   abbrev e4 : tie.Else-points-judged invariant_loop decreases_loop
-  e4 = h4.before.before.before
+  e4 = h4.before
 
   abbrev n4 : ℕ
   n4 = h4.in-BlockLine.n

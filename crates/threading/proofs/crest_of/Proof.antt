@@ -30,6 +30,7 @@ side_is s = λ i. side_of (to_z-of_z (stands s).target i -ℤ to_z-of_z (stands 
 
 start_of : tie.After-depth_of-deep → tie.Start
 start_of c = c.before.before.before.before.before.before.before
+
 -- a target that is the bottom lies no nearer than the depth
 room : (s : tie.Start) → s.args.t.nominal ≡ false → whole_depth s.args.t ≤ distance s.args.t.infeed
 unfolding crest_beyond

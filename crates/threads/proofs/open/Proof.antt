@@ -31,8 +31,8 @@ returns c =
     let t = s.args.t in
     let line = to_z-of_z (sfits_of {w = w32} l.crest_of-line.type_inv) ∙ l.crest_of-line.ensures in
     subst (λ (o : Cursor). (rest_of o ≡ threading t) × Sound o)
-    (sym (λ i. record { pass = p.pass_of-pass.ensures i; side = the_side d.before.before i; line = line i; depth = 0; cuts = c.«open».result; empty = t.empty; stage = In }))
-    (opens t c.«open».result s.requires.0 s.requires.1 c.«open».ensures.0 c.«open».ensures.1)
+    (sym (λ i. record { pass = p.pass_of-pass.ensures i; side = the_side d.before.before i; line = line i; depth = 0; cuts = c.open-cuts.result; empty = t.empty; stage = In }))
+    (opens t c.open-cuts.result s.requires.0 s.requires.1 c.open-cuts.ensures.0 c.open-cuts.ensures.1)
 
 pub open_spec : {M : Type 1} → statement M
 open_spec =

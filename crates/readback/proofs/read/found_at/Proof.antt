@@ -37,7 +37,7 @@ returns_2 c =
     let l = c in
     let e = l in
     let s = e in
-    ap (λ (l : Listed). Found l.what (From l.origin)) l.listed_at.ensures ∙ ap (λ (v : Version). found_at v s.args.list.now s.args.k) (sym e.in-Two.is)
+    ap (λ (l : Listed). Found l.what (From l.origin)) c.listed_at-listed.ensures ∙ ap (λ (v : Version). found_at v s.args.list.now s.args.k) (sym e.in-Two.is)
 
 pub found_at_spec : {M : Type 1} → statement M
 found_at_spec = tie.close (tie.spec (λ c. search rules) first_at_requires (λ c. search rules) listed_at_requires returns returns_2)
