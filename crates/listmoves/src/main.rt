@@ -7,7 +7,11 @@ ghost use Rattle.octets.specs.Bytes.{laid};
 ghost use Rattle.listmoves.specs.Printed.{fresh_buffer, printed, text_size};
 
 use demands::interpreter;
-use libc::{STDIN_FILENO, STDOUT_FILENO};
+use std::io;
+use std::io::{Read, Write};
+
+// The most bytes of standard input that are read: one more than a tape may have, so that a longer one is seen to be longer (alarm 2).
+const MOST_BYTES: u64 = 65_536;
 
 // The buffer that is lent: the header and as many records as a list may have.
 const BUFFER: usize = moves::HEADER_SIZE + moves::RECORD_SIZE * moves::RECORD_LIMIT;
@@ -46,11 +50,10 @@ fn list_moves(tape: &[u8], out: &mut [u8]) -> usize
     listing::lines::put_listing(answer, &buf, out)
 }
 
-// The buffer of the tape takes one byte more than a tape may have, so that a longer one is seen to be longer (alarm 2).
-fn main() {
-    let mut tape = io::large_buffer();
-    let n = io::read_full(STDIN_FILENO, &mut tape);
+fn main(rt: HostRuntime) -> io::Result<()> {
+    let mut tape = Vec::new(rt.alloc());
+    rt.reader().take(MOST_BYTES).read_to_end(&mut tape)?;
     let mut text = text_buffer();
-    let k = list_moves(&tape[..n], &mut text);
-    io::write_all(STDOUT_FILENO, &text[..k]);
+    let k = list_moves(&tape, &mut text);
+    rt.stdout().write_all(&text[..k])
 }
