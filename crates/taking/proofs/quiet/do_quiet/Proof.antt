@@ -26,15 +26,15 @@ returns_2 : tie.Need-returns-in-Bare
 returns_2 c =
     let q = c in
     let a = q.args in
-    subst (λ (q : Quiet). QuietDone (take a.count a.places.now) a.set a.frame q a.run c.pass_block.result) (sym q.quiet.given.1) c.pass_block.ensures
+    subst (λ (q : Quiet). QuietDone (take a.count a.places.now) a.set a.frame q a.run c.pass_block.result) (sym q.in-Bare.is) c.pass_block.ensures
 
 returns_3 : tie.Need-returns-in-Jump
 returns_3 c =
     let o = c in
     let q = o in
     let a = q.args in
-    subst (λ (q : Quiet). QuietDone (take a.count a.places.now) a.set a.frame q a.run c.do_jump.result) (sym q.quiet2.given.1)
-    (subst (λ (f : Frame). Jumped (take a.count a.places.now) a.set f q.quiet2.given.0.1.0 a.run q.quiet2.given.0.1.1.0 c.do_jump.result) o.onto-there.ensures c.do_jump.ensures)
+    subst (λ (q : Quiet). QuietDone (take a.count a.places.now) a.set a.frame q a.run c.do_jump.result) (sym q.in-Jump.is)
+    (subst (λ (f : Frame). Jumped (take a.count a.places.now) a.set f q.in-Jump.to a.run q.in-Jump.after c.do_jump.result) o.onto-there.ensures c.do_jump.ensures)
 
 pub do_quiet_spec : {M : Type 1} → statement M
 do_quiet_spec =
