@@ -20,13 +20,13 @@ use Rattle.reading.specs.declared.Read.TheVariants as read
 use Rattle.places.specs.declared.Found.{Found}
 use Rattle.places.specs.declared.Found.TheVariants.{At, Nowhere}
 use Rattle.ahead.specs.Ahead.{most_calls}
-use Rattle.taking.specs.Steps.{Task}
-use Rattle.runners.specs.Runs.{Ran, program_run}
-use Rattle.runners.specs.declared.Ending.{Ending}
-use Rattle.runners.specs.declared.Ending.TheVariants.{Returned, Ended, Stopped}
-use Rattle.answers.specs.Answers.{answer_by, start_of}
-use Rattle.answers.specs.declared.Answer.TheVariants.{Alarm}
-use Rattle.interpreter.specs.Answers.{Result, refused, result_of, main_at, main_by, main_run, read_then, longest_tape, interpretation_by, interpretation}
+use Rattle.demands.specs.of_taking.Steps.{Task}
+use Rattle.demands.specs.of_runners.Runs.{Ran, program_run}
+use Rattle.demands.specs.of_runners.declared.Ending.{Ending}
+use Rattle.demands.specs.of_runners.declared.Ending.TheVariants.{Returned, Ended, Stopped}
+use Rattle.demands.specs.of_answers.Answers.{answer_by, start_of}
+use Rattle.demands.specs.of_answers.declared.Answer.TheVariants.{Alarm}
+use Rattle.demands.specs.of_interpreter.Answers.{Result, refused, result_of, main_at, main_by, main_run, read_then, longest_tape, interpretation_by, interpretation}
 use Rattle.alarmed.specs.Order.{Passes, none, no, yes, later}
 use Rattle.alarmed.specs.Tests.{Input, settings_bad, too_long, too_short, unopened, input_order}
 use Rattle.alarmed.specs.Alarmed.{at_first, first_of, lines_of, refuses, ReadTo, all, ended, task_to, main_in, begins, Stands, input, line, main, run, list, answered}

@@ -19,15 +19,15 @@ use Rattle.finding.specs.Finding.{first_block}
 use Rattle.places.specs.declared.Found.{Found}
 use Rattle.places.specs.declared.Found.TheVariants.{At, Nowhere}
 use Rattle.ahead.specs.Ahead.{most_calls}
-use Rattle.taking.specs.Steps.{Task, Step}
-use Rattle.taking.specs.declared.Run.{Run}
-use Rattle.runners.specs.Runs.{Ran, program_run}
-use Rattle.runners.specs.declared.Ending.{Ending}
-use Rattle.runners.specs.declared.Ending.TheVariants.{Returned, Ended, Stopped}
-use Rattle.answers.specs.Answers.{answer_by, start_of}
-use Rattle.answers.specs.declared.Answer.{Answer}
-use Rattle.answers.specs.declared.Answer.TheVariants.{Complete, Alarm}
-use Rattle.interpreter.specs.Answers.{Result, refused, result_of, main_at, main_by, main_run, read_then, interpretation_by, interpretation}
+use Rattle.demands.specs.of_taking.Steps.{Task, Step}
+use Rattle.demands.specs.of_taking.declared.Run.{Run}
+use Rattle.demands.specs.of_runners.Runs.{Ran, program_run}
+use Rattle.demands.specs.of_runners.declared.Ending.{Ending}
+use Rattle.demands.specs.of_runners.declared.Ending.TheVariants.{Returned, Ended, Stopped}
+use Rattle.demands.specs.of_answers.Answers.{answer_by, start_of}
+use Rattle.demands.specs.of_answers.declared.Answer.{Answer}
+use Rattle.demands.specs.of_answers.declared.Answer.TheVariants.{Complete, Alarm}
+use Rattle.demands.specs.of_interpreter.Answers.{Result, refused, result_of, main_at, main_by, main_run, read_then, interpretation_by, interpretation}
 use Rattle.alarmed.specs.Order.{Passes, none, no, Refused, yes, later}
 use Rattle.alarmed.specs.Tests.{Input, settings_bad, too_long, too_short, unopened, input_order, block_order}
 use Rattle.alarmed.specs.Walking.{Open, Standing, standing, begun, after, step_at, Walk, stay, step, RunRefused, block, early}

@@ -13,11 +13,11 @@ use Rattle.moves.specs.Form.{header_size}
 use Rattle.reading.specs.Filling.{most_places}
 use Rattle.tape.specs.Lines.{Text}
 use Rattle.block.specs.Words.{line_of}
-use Rattle.taking.specs.Steps.{Step}
-use Rattle.answers.specs.Answers.{number_of}
-use Rattle.answers.specs.declared.Answer.{Answer}
-use Rattle.interpreter.specs.Answers.{Result}
-use Rattle.interpreter.proofs.Staying.{all_stay}
+use Rattle.demands.specs.of_taking.Steps.{Step}
+use Rattle.demands.specs.of_answers.Answers.{number_of}
+use Rattle.demands.specs.of_answers.declared.Answer.{Answer}
+use Rattle.demands.specs.of_interpreter.Answers.{Result}
+use Rattle.demands.proofs.of_interpreter.Staying.{all_stay}
 use Rattle.alarmed.specs.Order.{Row, Refused}
 use Rattle.alarmed.specs.Tests.{Input, settings_bad, too_long, too_short, unopened, input_order, Line, overlong, unreadable, point_missing, start_bad, rules_broken, is_entry, table_full, line_order, block_order}
 use Rattle.alarmed.specs.Walking.{block, early}

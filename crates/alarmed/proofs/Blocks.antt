@@ -36,17 +36,17 @@ use Rattle.deeds.specs.declared.Deed.TheVariants.{Nothing, Nowhere as Aimless, D
 use Rattle.scaling.specs.declared.Sending.{Sending}
 use Rattle.asking.specs.Judge.{refused as refused_cycle, of_records, asks_of, feed_wrong, room_wrong, alarm_of, doing}
 use Rattle.asking.specs.declared.Asked.{Asked}
-use Rattle.writing.specs.Writes.{writes, other_count}
-use Rattle.writing.proofs.Chain.{writes_length}
-use Rattle.verdicts.specs.Verdicts.{sending_of, deed_in, asks_in, asked_in, alarm_in}
-use Rattle.machine.specs.Blocks.{done_records}
+use Rattle.demands.specs.of_writing.Writes.{writes, other_count}
+use Rattle.demands.proofs.of_writing.Chain.{writes_length}
+use Rattle.demands.specs.of_verdicts.Verdicts.{sending_of, deed_in, asks_in, asked_in, alarm_in}
+use Rattle.demands.specs.of_machine.Blocks.{done_records}
 use Rattle.ahead.specs.Ahead.{most_calls, called_at, jumped_to, looked_by, looked_up}
 use Rattle.ahead.specs.declared.Frame.{Frame}
 use Rattle.ahead.specs.declared.ProgramAt.{ProgramAt}
 use Rattle.ahead.specs.declared.Onward.{Onward}
 use Rattle.ahead.specs.declared.Onward.TheVariants.{On, Call, Jump, Return, End, Stop}
-use Rattle.taking.specs.Steps.{Task, block_on, onward_by, alarm_by, alarm_at}
-use Rattle.taking.specs.declared.Run.{Run}
+use Rattle.demands.specs.of_taking.Steps.{Task, block_on, onward_by, alarm_by, alarm_at}
+use Rattle.demands.specs.of_taking.declared.Run.{Run}
 use Rattle.alarmed.specs.Order.{Passes, Refused}
 use Rattle.alarmed.specs.Tests.{Begun, none_left, ends_badly, end_bad, nowhere, calls, call_bad, jumps, jump_bad, deepens, call_deep, is_none, is_straight, lacks_motion, motionless, other_traverse, rapid_missing, least_feed, feed_bad, wrong_lengths, lengths_bad, goes_outside, outside_bad, records_of, overfull, block_order}
 use Rattle.alarmed.proofs.Orders.{first, Above, passes, refused}

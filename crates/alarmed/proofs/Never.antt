@@ -21,11 +21,11 @@ use Rattle.ahead.specs.declared.Frame.{Frame}
 use Rattle.ahead.specs.declared.ProgramAt.{ProgramAt}
 use Rattle.ahead.specs.declared.Onward.{Onward}
 use Rattle.ahead.specs.declared.Onward.TheVariants.{On, Call, Jump, Return, End, Stop}
-use Rattle.taking.specs.Steps.{Task, Step, block_on, onward_by, onward_of, run_after}
-use Rattle.taking.specs.declared.Run.{Run}
-use Rattle.runners.specs.Runs.{Ran, pre, go_back, and_then, go_on, onward, blocks, enough, called, entry}
-use Rattle.runners.specs.declared.Ending.{Ending}
-use Rattle.runners.specs.declared.Ending.TheVariants.{Returned, Ended, Stopped}
+use Rattle.demands.specs.of_taking.Steps.{Task, Step, block_on, onward_by, onward_of, run_after}
+use Rattle.demands.specs.of_taking.declared.Run.{Run}
+use Rattle.demands.specs.of_runners.Runs.{Ran, pre, go_back, and_then, go_on, onward, blocks, enough, called, entry}
+use Rattle.demands.specs.of_runners.declared.Ending.{Ending}
+use Rattle.demands.specs.of_runners.declared.Ending.TheVariants.{Returned, Ended, Stopped}
 use Rattle.alarmed.specs.Never.{NeverReturns, NeverCalls, FuelLasts}
 use Rattle.alarmed.proofs.Taking.{by_taken, one_fewer, called_few}
 

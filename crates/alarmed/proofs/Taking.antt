@@ -14,12 +14,12 @@ use Rattle.ahead.specs.declared.Frame.{Frame}
 use Rattle.ahead.specs.declared.ProgramAt.{ProgramAt}
 use Rattle.ahead.specs.declared.Onward.{Onward}
 use Rattle.ahead.specs.declared.Onward.TheVariants.{On, Call, Jump, Return, End, Stop}
-use Rattle.taking.specs.Steps.{Task, Step, block_on, onward_of, alarm_at, run_after, records_at, origin_at, Taken, taken_by, taken_from}
-use Rattle.taking.specs.declared.Run.{Run}
-use Rattle.taking.proofs.Stepping.{some_left}
-use Rattle.runners.specs.Runs.{Ran, pre, go_back, and_then, go_on, onward, blocks, enough, repeated, called, entry}
-use Rattle.runners.specs.declared.Ending.{Ending}
-use Rattle.runners.specs.declared.Ending.TheVariants.{Returned, Ended, Stopped}
+use Rattle.demands.specs.of_taking.Steps.{Task, Step, block_on, onward_of, alarm_at, run_after, records_at, origin_at, Taken, taken_by, taken_from}
+use Rattle.demands.specs.of_taking.declared.Run.{Run}
+use Rattle.demands.proofs.of_taking.Stepping.{some_left}
+use Rattle.demands.specs.of_runners.Runs.{Ran, pre, go_back, and_then, go_on, onward, blocks, enough, repeated, called, entry}
+use Rattle.demands.specs.of_runners.declared.Ending.{Ending}
+use Rattle.demands.specs.of_runners.declared.Ending.TheVariants.{Returned, Ended, Stopped}
 use Rattle.demands.proofs.Linked.{free_asked, done_free, done_alarm, records_free}
 use Rattle.alarmed.specs.Walking.{step_at}
 

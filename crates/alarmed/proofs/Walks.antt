@@ -22,11 +22,11 @@ use Rattle.ahead.specs.declared.Frame.{Frame}
 use Rattle.ahead.specs.declared.ProgramAt.{ProgramAt}
 use Rattle.ahead.specs.declared.Onward.{Onward}
 use Rattle.ahead.specs.declared.Onward.TheVariants.{On, Call, Jump, Return, End, Stop}
-use Rattle.taking.specs.Steps.{Task, Step, block_on, onward_by, onward_of, alarm_by, alarm_at, run_after}
-use Rattle.taking.specs.declared.Run.{Run}
-use Rattle.runners.specs.Runs.{Ran, pre, go_back, and_then, go_on, onward, blocks, blocks_in_all, enough, repeated, called, entry, program_run}
-use Rattle.runners.specs.declared.Ending.{Ending}
-use Rattle.runners.specs.declared.Ending.TheVariants.{Returned, Ended, Stopped}
+use Rattle.demands.specs.of_taking.Steps.{Task, Step, block_on, onward_by, onward_of, alarm_by, alarm_at, run_after}
+use Rattle.demands.specs.of_taking.declared.Run.{Run}
+use Rattle.demands.specs.of_runners.Runs.{Ran, pre, go_back, and_then, go_on, onward, blocks, blocks_in_all, enough, repeated, called, entry, program_run}
+use Rattle.demands.specs.of_runners.declared.Ending.{Ending}
+use Rattle.demands.specs.of_runners.declared.Ending.TheVariants.{Returned, Ended, Stopped}
 use Rattle.demands.proofs.Linked.{free_asked}
 use Rattle.alarmed.specs.Walking.{Open, opened, moved, runs, jumped, called as walks_into, goes_on, Standing, standing, step_at, Walk, stay, step, RunRefused, block, early}
 use Rattle.alarmed.proofs.Blocks.{block_passes, block_refused}

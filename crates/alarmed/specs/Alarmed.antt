@@ -9,11 +9,11 @@ use Rattle.reading.specs.Reading.{History, nothing_read, noted, ends_with}
 use Rattle.finding.specs.Finding.{find_program}
 use Rattle.places.specs.declared.Found.{Found}
 use Rattle.places.specs.declared.Found.TheVariants.{At, Nowhere}
-use Rattle.taking.specs.Steps.{Task, task_of, Step}
-use Rattle.answers.specs.Answers.{start_of}
-use Rattle.answers.specs.declared.Answer.{Answer}
-use Rattle.answers.specs.declared.Answer.TheVariants.{Complete, Alarm}
-use Rattle.interpreter.specs.Answers.{Result, main_at, interpretation}
+use Rattle.demands.specs.of_taking.Steps.{Task, task_of, Step}
+use Rattle.demands.specs.of_answers.Answers.{start_of}
+use Rattle.demands.specs.of_answers.declared.Answer.{Answer}
+use Rattle.demands.specs.of_answers.declared.Answer.TheVariants.{Complete, Alarm}
+use Rattle.demands.specs.of_interpreter.Answers.{Result, main_at, interpretation}
 use Rattle.alarmed.specs.Order.{Passes, Refused}
 use Rattle.alarmed.specs.Tests.{Input, input_order, Line, is_entry, line_order}
 use Rattle.alarmed.specs.Walking.{opened, Standing, standing, Walk, RunRefused}

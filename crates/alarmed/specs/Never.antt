@@ -7,11 +7,11 @@ use Rattle.ahead.specs.Ahead.{most_calls}
 use Rattle.ahead.specs.declared.Frame.{Frame}
 use Rattle.ahead.specs.declared.ProgramAt.{ProgramAt}
 use Rattle.ahead.specs.declared.Onward.TheVariants.{Call}
-use Rattle.taking.specs.Steps.{Task, onward_of}
-use Rattle.taking.specs.declared.Run.{Run}
-use Rattle.runners.specs.Runs.{blocks, called, program_run}
-use Rattle.runners.specs.declared.Ending.TheVariants.{Returned}
-use Rattle.answers.specs.declared.Answer.TheVariants.{Alarm}
+use Rattle.demands.specs.of_taking.Steps.{Task, onward_of}
+use Rattle.demands.specs.of_taking.declared.Run.{Run}
+use Rattle.demands.specs.of_runners.Runs.{blocks, called, program_run}
+use Rattle.demands.specs.of_runners.declared.Ending.TheVariants.{Returned}
+use Rattle.demands.specs.of_answers.declared.Answer.TheVariants.{Alarm}
 use Rattle.alarmed.specs.Tests.{Input}
 use Rattle.alarmed.specs.Alarmed.{answered}
 

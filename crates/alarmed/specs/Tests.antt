@@ -37,11 +37,11 @@ use Rattle.deeds.specs.Deed.{has_path, has_centre}
 use Rattle.deeds.specs.declared.Deed.{Deed}
 use Rattle.deeds.specs.declared.Deed.TheVariants.{Nothing, Nowhere as Aimless, Dwell, Straight, Round, Cycle}
 use Rattle.asking.specs.Judge.{feed_wrong}
-use Rattle.verdicts.specs.Verdicts.{deed_in}
-use Rattle.machine.specs.Blocks.{done_records}
+use Rattle.demands.specs.of_verdicts.Verdicts.{deed_in}
+use Rattle.demands.specs.of_machine.Blocks.{done_records}
 use Rattle.ahead.specs.Ahead.{most_calls}
-use Rattle.taking.specs.Steps.{Task, block_on}
-use Rattle.taking.specs.declared.Run.{Run}
+use Rattle.demands.specs.of_taking.Steps.{Task, block_on}
+use Rattle.demands.specs.of_taking.declared.Run.{Run}
 use Rattle.alarmed.specs.Order.{Row, row}
 
 -- ---- 1 TO 4, of what the interpreter is given; the last two: the length of the table of places, and that of the buffer

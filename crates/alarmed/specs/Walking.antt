@@ -9,10 +9,10 @@ use Rattle.places.specs.declared.Found.TheVariants.{At, Nowhere}
 use Rattle.requests.specs.Request.{request_of}
 use Rattle.requests.specs.declared.Request.{Request}
 use Rattle.requests.specs.declared.Request.TheVariants.{On, Call, Jump, Return, End}
-use Rattle.machine.specs.Blocks.{done_records}
-use Rattle.taking.specs.Steps.{Task, Step, block_on, run_after}
+use Rattle.demands.specs.of_machine.Blocks.{done_records}
+use Rattle.demands.specs.of_taking.Steps.{Task, Step, block_on, run_after}
 use Rattle.ahead.specs.declared.ProgramAt.{ProgramAt}
-use Rattle.taking.specs.declared.Run.{Run}
+use Rattle.demands.specs.of_taking.declared.Run.{Run}
 use Rattle.alarmed.specs.Order.{Passes, Refused}
 use Rattle.alarmed.specs.Tests.{Begun, block_order}
 

@@ -5,7 +5,7 @@ use Rattle.alarms.specs.Numbers.{wrong_end}
 use Rattle.moves.specs.Form.{header_bytes}
 use Rattle.settings.specs.declared.Settings.{Settings}
 use Rattle.state.specs.Modal.{at_start}
-use Rattle.taking.specs.declared.Run.{Run}
+use Rattle.runners.specs.of_taking.declared.Run.{Run}
 use Rattle.runners.specs.Runs.{blocks_in_all}
 use Rattle.runners.specs.declared.Ending.{Ending}
 use Rattle.runners.specs.declared.Ending.TheVariants.{Returned, Ended, Stopped}

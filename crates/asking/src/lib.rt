@@ -3,8 +3,8 @@
 #![tactic(auto)]
 
 ghost use Rattle.std.specs.Prelude.{◌≡◌, ◌<◌};
-ghost use Rattle.cycles.specs.Cycle as cycle;{
-ghost use Rattle.cycles.specs.Known as known;{
+ghost use Rattle.cycles.specs.Cycle as cycle;
+ghost use Rattle.cycles.specs.Known as known;
 ghost use Rattle.asking.specs.Judge.{quiet, of_straight, of_round, of_cycle, asks_of, alarm_of};
 ghost use Rattle.settings.specs.Known.{SpanIn};
 ghost use Rattle.deeds.specs.Known.{Curved, Known};

@@ -10,24 +10,24 @@ use lib.ListN.{length, replicate, length-replicate}
 use Rattle.alarms.specs.Numbers.{bad_settings, buffer_too_short, places_too_short}
 use Rattle.reading.specs.Filling.{most_places}
 use Rattle.panel.specs.Row.{unfit, settings_of}
-use Rattle.answers.specs.Answers.{number_of}
-use Rattle.answers.specs.declared.Answer.{Answer}
-use Rattle.answers.specs.declared.Answer.TheVariants.{Alarm}
-use Rattle.interpreter.specs.Answers.{Result, refused, interpretation}
-use Rattle.interpreter.proofs.Staying.{all_stay}
-use Rattle.resuming.specs.Handed.{Made, Left, left_of, handed_of, roomy}
-use Rattle.resuming.specs.Handed as left
-use Rattle.resuming.specs.declared.Handed.TheVariants as handed
-use Rattle.paused.specs.Kept.{Fitting}
-use Rattle.inhand.specs.State.{state_words}
-use Rattle.packing.specs.declared.Told.{Told}
-use Rattle.packing.specs.declared.Told.TheVariants as told
+use Rattle.alarmed.specs.of_answers.Answers.{number_of}
+use Rattle.alarmed.specs.of_answers.declared.Answer.{Answer}
+use Rattle.alarmed.specs.of_answers.declared.Answer.TheVariants.{Alarm}
+use Rattle.alarmed.specs.of_interpreter.Answers.{Result, refused, interpretation}
+use Rattle.alarmed.proofs.of_interpreter.Staying.{all_stay}
+use Rattle.onemove.specs.of_resuming.Handed.{Made, Left, left_of, handed_of, roomy}
+use Rattle.onemove.specs.of_resuming.Handed as left
+use Rattle.onemove.specs.of_resuming.declared.Handed.TheVariants as handed
+use Rattle.onemove.specs.of_paused.Kept.{Fitting}
+use Rattle.onemove.specs.of_inhand.State.{state_words}
+use Rattle.onemove.specs.of_packing.declared.Told.{Told}
+use Rattle.onemove.specs.of_packing.declared.Told.TheVariants as told
 use Rattle.onemove.specs.OneMove.{result_at, Holds, Hands, InTurn}
 use Rattle.onemove.proofs.Turns.{each_in_turn}
 use Rattle.alarmed.proofs.Ample.{never_short, never_full}
 use Rattle.board.specs.Door.{at_door, first_at_door}
 use Rattle.board.specs.Asked.{start_number, StartAtDoor, AsksAtDoor, Answers, OneMoveAtDoor, OneMoveLaw}
-use Rattle.packing.specs.Packing.{answer_number, over, told_number, FitsTold}
+use Rattle.onemove.specs.of_packing.Packing.{answer_number, over, told_number, FitsTold}
 use Rattle.board.proofs.Doors.{demand_one_at_door}
 
 -- ---- what is wanted

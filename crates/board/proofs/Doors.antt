@@ -9,26 +9,26 @@ use lib.IntN.{ℤ}
 use lib.ListN.{length}
 use Rattle.alarms.specs.Numbers.{bad_settings}
 use Rattle.settings.specs.declared.Settings.{Settings}
-use Rattle.interpreter.specs.Answers.{Result, refused, interpretation, answer_of, places_of, buffer_of, laid_by}
-use Rattle.taking.specs.Steps.{Task}
-use Rattle.answers.specs.declared.Answer.{Answer}
-use Rattle.answers.specs.declared.Answer.TheVariants.{Alarm}
-use Rattle.interpreter.proofs.Whole.{none_begun}
-use Rattle.demands.specs.Demands.{Owed, OwedList, TableAfter, Each, EachFrom, EveryCycle, CutIn, Threads, ThreadsIn}
-use Rattle.demands.specs.Origins.{BlockNamed}
-use Rattle.demands.specs.Placed.{accepted_in}
-use Rattle.demands.specs.Strokes.{Deepens, DeepensIn}
-use Rattle.demands.specs.Arcs.{ArcsOwed, ArcsOwedIn, Rounds, RoundsIn}
-use Rattle.demands.proofs.Holding.{none_owed, all_owed, demand_two}
-use Rattle.demands.proofs.Placed.{none_after, table_after}
-use Rattle.demands.proofs.Demands.{demand_three, thread_promise, demand_three_in_buffer, thread_promise_in_buffer}
-use Rattle.demands.proofs.Strokes.{depth_law, depth_law_in_buffer}
-use Rattle.demands.proofs.Arcs.{none_owed as no-arcs, none_owed_in as no-arcs-in, arc_promise, arc_promise_in_buffer, arcs_written, arcs_written_in_buffer}
-use Rattle.demands.proofs.EveryBlock.{every_block_named}
+use Rattle.alarmed.specs.of_interpreter.Answers.{Result, refused, interpretation, answer_of, places_of, buffer_of, laid_by}
+use Rattle.alarmed.specs.of_taking.Steps.{Task}
+use Rattle.alarmed.specs.of_answers.declared.Answer.{Answer}
+use Rattle.alarmed.specs.of_answers.declared.Answer.TheVariants.{Alarm}
+use Rattle.alarmed.proofs.of_interpreter.Whole.{none_begun}
+use Rattle.alarmed.specs.of_demands.Demands.{Owed, OwedList, TableAfter, Each, EachFrom, EveryCycle, CutIn, Threads, ThreadsIn}
+use Rattle.alarmed.specs.of_demands.Origins.{BlockNamed}
+use Rattle.alarmed.specs.of_demands.Placed.{accepted_in}
+use Rattle.alarmed.specs.of_demands.Strokes.{Deepens, DeepensIn}
+use Rattle.alarmed.specs.of_demands.Arcs.{ArcsOwed, ArcsOwedIn, Rounds, RoundsIn}
+use Rattle.alarmed.proofs.of_demands.Holding.{none_owed, all_owed, demand_two}
+use Rattle.alarmed.proofs.of_demands.Placed.{none_after, table_after}
+use Rattle.alarmed.proofs.of_demands.Demands.{demand_three, thread_promise, demand_three_in_buffer, thread_promise_in_buffer}
+use Rattle.alarmed.proofs.of_demands.Strokes.{depth_law, depth_law_in_buffer}
+use Rattle.alarmed.proofs.of_demands.Arcs.{none_owed as no-arcs, none_owed_in as no-arcs-in, arc_promise, arc_promise_in_buffer, arcs_written, arcs_written_in_buffer}
+use Rattle.alarmed.proofs.of_demands.EveryBlock.{every_block_named}
 use Rattle.alarmed.proofs.Alone.{alarms_stand}
 use Rattle.panel.specs.Row.{unfit, settings_of}
 use Rattle.board.specs.Door.{at_door, answer_at, places_at, buffer_at, accepted_at, DemandOneAtDoor, DemandTwoAtDoor, EveryBlockNamedAtDoor, input_at, AlarmsStandAtDoor, task_at, DemandThreeAtDoor, DemandThreeInBufferAtDoor, ThreadPromiseAtDoor, ThreadPromiseInBufferAtDoor, DepthLawAtDoor, DepthLawInBufferAtDoor, ArcPromiseAtDoor, ArcPromiseInBufferAtDoor, ArcsWrittenAtDoor, ArcsWrittenInBufferAtDoor}
-use Rattle.packing.specs.Packing.{Packed, Fits}
+use Rattle.onemove.specs.of_packing.Packing.{Packed, Fits}
 
 -- ---- an answer, a table of places and a buffer, as the door gives them
 module _ (tape : List ℕ) (table numbers : List ℤ) (places b : List ℕ) where

@@ -5,15 +5,15 @@ use Rattle.octets.specs.Bytes.{laid}
 use Rattle.moves.specs.Form.{record_size, record_bytes}
 use Rattle.alarms.specs.Numbers.{buffer_too_short, places_too_short}
 use Rattle.reading.specs.Filling.{most_places}
-use Rattle.answers.specs.declared.Answer.TheVariants.{Alarm}
-use Rattle.resuming.specs.declared.Handed.{Handed}
-use Rattle.resuming.specs.declared.Handed.TheVariants as handed
-use Rattle.resuming.specs.Handed.{roomy, left_of}
-use Rattle.resuming.specs.Handed as left
-use Rattle.inhand.specs.State.{state_words}
-use Rattle.packing.specs.declared.Told.{Told}
-use Rattle.packing.specs.declared.Told.TheVariants as told
-use Rattle.packing.specs.Packing.{answer_number, over, told_number, Bounded}
+use Rattle.alarmed.specs.of_answers.declared.Answer.TheVariants.{Alarm}
+use Rattle.onemove.specs.of_resuming.declared.Handed.{Handed}
+use Rattle.onemove.specs.of_resuming.declared.Handed.TheVariants as handed
+use Rattle.onemove.specs.of_resuming.Handed.{roomy, left_of}
+use Rattle.onemove.specs.of_resuming.Handed as left
+use Rattle.onemove.specs.of_inhand.State.{state_words}
+use Rattle.onemove.specs.of_packing.declared.Told.{Told}
+use Rattle.onemove.specs.of_packing.declared.Told.TheVariants as told
+use Rattle.onemove.specs.of_packing.Packing.{answer_number, over, told_number, Bounded}
 use Rattle.onemove.specs.OneMove.{StartsIn, NextMeets}
 use Rattle.board.specs.Door.{at_door, first_at_door}
 

@@ -2,14 +2,14 @@
 use Rattle.std.specs.Prelude.{◌≡◌, true, false, cond, List, [], ℕ, ℤ, length}
 use Rattle.alarms.specs.Numbers.{bad_settings}
 use Rattle.panel.specs.Row.{unfit, settings_of}
-use Rattle.interpreter.specs.Answers.{Result, refused, interpretation, first_interpretation, places_of, laid_by}
-use Rattle.answers.specs.declared.Answer.{Answer}
-use Rattle.taking.specs.Steps.{Task}
-use Rattle.demands.specs.Demands.{Owed, OwedList, TableAfter, Each, EachFrom, EveryCycle, CutIn, Threads, ThreadsIn, task}
-use Rattle.demands.specs.Origins.{BlockNamed}
-use Rattle.demands.specs.Placed.{accepted_in}
-use Rattle.demands.specs.Strokes.{Deepens, DeepensIn}
-use Rattle.demands.specs.Arcs.{ArcsOwed, ArcsOwedIn, Rounds, RoundsIn}
+use Rattle.alarmed.specs.of_interpreter.Answers.{Result, refused, interpretation, first_interpretation, places_of, laid_by}
+use Rattle.alarmed.specs.of_answers.declared.Answer.{Answer}
+use Rattle.alarmed.specs.of_taking.Steps.{Task}
+use Rattle.alarmed.specs.of_demands.Demands.{Owed, OwedList, TableAfter, Each, EachFrom, EveryCycle, CutIn, Threads, ThreadsIn, task}
+use Rattle.alarmed.specs.of_demands.Origins.{BlockNamed}
+use Rattle.alarmed.specs.of_demands.Placed.{accepted_in}
+use Rattle.alarmed.specs.of_demands.Strokes.{Deepens, DeepensIn}
+use Rattle.alarmed.specs.of_demands.Arcs.{ArcsOwed, ArcsOwedIn, Rounds, RoundsIn}
 use Rattle.tape.specs.Lines.{Text}
 use Rattle.alarmed.specs.Tests.{Input}
 use Rattle.alarmed.specs.Alarmed.{answered, AlarmsStand}

@@ -2,8 +2,8 @@
 use Rattle.std.specs.Prelude.{cond, List, ◌∷◌, [], ℕ, ◌+◌, ◌/◌, ◌%◌, eqb, ℤ}
 use Rattle.settings.specs.Wrong.{table_size}
 use Rattle.panel.specs.Row.{at, main_at, lowest_subroutine_at, retract_at, start_x_at, start_z_at, x_lowest_at, x_highest_at, z_lowest_at, z_highest_at, empty_cuts_at, points_at}
-use Rattle.answers.specs.declared.Answer.{Answer}
-use Rattle.answers.specs.declared.Answer.TheVariants.{Complete, Alarm}
+use Rattle.listing.specs.of_answers.declared.Answer.{Answer}
+use Rattle.listing.specs.of_answers.declared.Answer.TheVariants.{Complete, Alarm}
 
 -- a case has its settings behind its table, each at its place
 abbrev pub setting_at : List ℤ → ℕ → ℤ

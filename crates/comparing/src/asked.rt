@@ -3,6 +3,9 @@
 ghost use Rattle.std.specs.Prelude.{◌≤◌};
 ghost use Rattle.stored.specs.Texts.{FromOne};
 
+use board::runwords;
+use board::packing;
+use board::inhand;
 use stored::compare::Verdict;
 
 // The buffer that has room for every list.

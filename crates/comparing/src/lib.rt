@@ -8,7 +8,10 @@ ghost use Rattle.std.specs.Prelude.{◌≡◌, ◌≤◌, length};
 ghost use Rattle.stored.specs.Texts.{FromOne};
 ghost use Rattle.comparing.specs.Door.{settings_in, answer_told};
 
-use answers::Answer;
+pub use listing;
+pub use board;
+pub use listing::answers;
+use listing::answers::Answer;
 use stored::compare::Verdict;
 use stored::given::ALL;
 

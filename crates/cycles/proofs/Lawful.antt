@@ -11,18 +11,18 @@ use Rattle.moves.specs.Form.{AllFitting}
 use Rattle.turning.specs.declared.Turning as turns
 use Rattle.turning.specs.Turning as turn
 use Rattle.turning.proofs.Asked.{long_enough}
-use Rattle.turning.proofs.Counts as turn-laws
+use Rattle.turning.proofs.Counts as turn_laws
 use Rattle.threading.specs.declared.Thread.{Thread}
 use Rattle.threading.specs.Threading as thread
-use Rattle.threading.proofs.Counts as thread-laws
+use Rattle.threading.proofs.Counts as thread_laws
 use Rattle.grooving.specs.declared.Groove.{Groove}
 use Rattle.grooving.specs.Grooving as groove
-use Rattle.grooving.proofs.Counts as groove-laws
+use Rattle.grooving.proofs.Counts as groove_laws
 use Rattle.grooving.proofs.Rows.{few_steps, few_plunge}
 use Rattle.drilling.specs.declared.Bore.{Bore}
 use Rattle.drilling.specs.Drilling as drill
 use Rattle.drilling.proofs.Asked.{stroke_fits}
-use Rattle.drilling.proofs.Counts as drill-laws
+use Rattle.drilling.proofs.Counts as drill_laws
 use Rattle.drilling.proofs.Each.{Stands, drilling_fitting}
 use Rattle.cycles.specs.declared.Cycle.{Cycle}
 use Rattle.cycles.specs.declared.Cycle.TheVariants.{Turning, Threading, Grooving, Drilling}
@@ -40,19 +40,19 @@ pub record Lawful (c : Cycle) : Type 0 where
 turning_lawful : (c : turns.Turning) → turn.too_short c ≡ false → Known (Turning c) → Lawful (Turning c)
 turning_lawful c e k =
     let long = long_enough c e in
-    let infeed : turn-laws.Stands c.infeed = record { start = k.0.0; target = k.0.1 } in
-    let path : turn-laws.Stands c.path = record { start = k.1.0; target = k.1.1 } in record {
-      few = omega (arith, turn-laws.few-turning c infeed long.0, turn-laws.turning-length c long.0);
-      fitting = turn-laws.turning-fitting c infeed path k.2 long.0 long.1;
+    let infeed : turn_laws.Stands c.infeed = record { start = k.0.0; target = k.0.1 } in
+    let path : turn_laws.Stands c.path = record { start = k.1.0; target = k.1.1 } in record {
+      few = omega (arith, turn_laws.few_turning c infeed long.0, turn_laws.turning_length c long.0);
+      fitting = turn_laws.turning_fitting c infeed path k.2 long.0 long.1;
     }
 
 -- ---- a thread
 thread_lawful : (t : Thread) → thread.wrong t ≡ false → Known (Threading t) → Lawful (Threading t)
 thread_lawful t e k =
-    let infeed : thread-laws.Stands t.infeed = record { start = k.0.0; target = k.0.1 } in
-    let path : thread-laws.Stands t.path = record { start = k.1.0; target = k.1.1 } in record {
-      few = omega (arith, thread-laws.few-threading t k.3 e, thread-laws.threading-length t e);
-      fitting = thread-laws.threading-fitting t infeed path k.2 k.3 e;
+    let infeed : thread_laws.Stands t.infeed = record { start = k.0.0; target = k.0.1 } in
+    let path : thread_laws.Stands t.path = record { start = k.1.0; target = k.1.1 } in record {
+      few = omega (arith, thread_laws.few_threading t k.3 e, thread_laws.threading_length t e);
+      fitting = thread_laws.threading_fitting t infeed path k.2 k.3 e;
     }
 
 -- ---- a groove
@@ -74,15 +74,15 @@ groove_lawful : (g : Groove) → groove.wrong g ≡ false → Known (Grooving g)
 groove_lawful g e k =
     let depth : groove_laws.Stands g.depth = record { start = k.0.0; target = k.0.1 } in
     let width : groove_laws.Stands g.width = record { start = k.1.0; target = k.1.1 } in record {
-      few = subst (λ (n : ℕ). n < 1_000_000_000_000_000_000) (sym (groove_laws.grooving-length g e)) (few_groove g e k);
-      fitting = groove_laws.grooving-fitting g depth width k.2 k.3 e;
+      few = subst (λ (n : ℕ). n < 1_000_000_000_000_000_000) (sym (groove_laws.grooving_length g e)) (few_groove g e k);
+      fitting = groove_laws.grooving_fitting g depth width k.2 k.3 e;
     }
 
 -- ---- a bore
 bore_lawful : (b : Bore) → drill.wrong b ≡ false → Known (Drilling b) → Lawful (Drilling b)
 bore_lawful b e k =
     let stands : Stands b = record { x = k.0; start = k.1.0; target = k.1.1; f = k.2; dwell = k.3 } in record {
-      few = omega (arith, drill-laws.drilling-length b e, drill-laws.few-records b e, stroke_fits b k.1.0 k.1.1);
+      few = omega (arith, drill_laws.drilling_length b e, drill_laws.few_records b e, stroke_fits b k.1.0 k.1.1);
       fitting = drilling_fitting b stands e;
     }
 

@@ -41,18 +41,18 @@ use Rattle.scaling.specs.declared.Sending.{Sending}
 use Rattle.deeds.proofs.Made.{Starts, starts}
 use Rattle.deeds.proofs.Wanted.{is_arc_wanted}
 use Rattle.asking.specs.Judge.{asks_of, doing}
-use Rattle.writing.specs.Writes.{one_if, speed_of, tool_of, m_of, speed_and_tool, spindle_and_coolant, moved, done, stops, stopping, writes}
-use Rattle.verdicts.specs.Verdicts.{sending_of, deed_in, asks_in, alarm_in}
-use Rattle.verdicts.proofs.Passing.{all_passed, right_in}
-use Rattle.machine.specs.Blocks.{done_records}
-use Rattle.machine.proofs.Running.{stands_inside}
+use Rattle.interpreter.specs.of_writing.Writes.{one_if, speed_of, tool_of, m_of, speed_and_tool, spindle_and_coolant, moved, done, stops, stopping, writes}
+use Rattle.interpreter.specs.of_verdicts.Verdicts.{sending_of, deed_in, asks_in, alarm_in}
+use Rattle.interpreter.proofs.of_verdicts.Passing.{all_passed, right_in}
+use Rattle.interpreter.specs.of_machine.Blocks.{done_records}
+use Rattle.interpreter.proofs.of_machine.Running.{stands_inside}
 use Rattle.ahead.specs.Ahead.{most_calls, onto}
 use Rattle.ahead.specs.declared.ProgramAt.{ProgramAt}
-use Rattle.taking.specs.Steps.{Task, task_of, Step, block_on, run_after}
-use Rattle.taking.specs.declared.Run.{Run}
-use Rattle.runners.specs.Runs.{records_of, program_run}
-use Rattle.runners.proofs.Going.{listed_whats}
-use Rattle.answers.specs.Answers.{start_of}
+use Rattle.interpreter.specs.of_taking.Steps.{Task, task_of, Step, block_on, run_after}
+use Rattle.interpreter.specs.of_taking.declared.Run.{Run}
+use Rattle.interpreter.specs.of_runners.Runs.{records_of, program_run}
+use Rattle.interpreter.proofs.of_runners.Going.{listed_whats}
+use Rattle.interpreter.specs.of_answers.Answers.{start_of}
 use Rattle.interpreter.specs.Answers.{Result, refused, result_of, main_at, interpretation}
 use Rattle.demands.specs.Steps.{Linked}
 use Rattle.demands.specs.Arcs.{ArcsOwed, ArcsOwedIn, ArcPromise, ArcPromiseInBuffer, OpensArc, arc_in, Beside, AllBeside, Written, ArcsWritten, ArcsWrittenInBuffer}

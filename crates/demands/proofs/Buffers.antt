@@ -21,24 +21,24 @@ use Rattle.targets.proofs.Ranges.{start_sound}
 use Rattle.settings.specs.Known.{InRange}
 use Rattle.settings.specs.Points.{with_points}
 use Rattle.settings.specs.declared.Settings.{Settings}
-use Rattle.machine.proofs.Running.{sound_after}
+use Rattle.interpreter.proofs.of_machine.Running.{sound_after}
 use Rattle.ahead.specs.Ahead.{most_calls, onto, FoundAt}
 use Rattle.ahead.specs.declared.ProgramAt.{ProgramAt}
-use Rattle.taking.specs.Steps.{Task, task_of, Step, listed_by, block_on, run_after}
-use Rattle.taking.specs.declared.Run.{Run}
-use Rattle.taking.proofs.Lines.{worded_on}
+use Rattle.interpreter.specs.of_taking.Steps.{Task, task_of, Step, listed_by, block_on, run_after}
+use Rattle.interpreter.specs.of_taking.declared.Run.{Run}
+use Rattle.interpreter.proofs.of_taking.Lines.{worded_on}
 use Rattle.interpreter.specs.Answers.{Result, refused, result_of, main_at, interpretation, laid_by}
-use Rattle.answers.specs.Answers.{answer_by, start_of, headed}
-use Rattle.runners.specs.Runs.{listed_of, program_run}
-use Rattle.answers.specs.declared.Answer.{Answer}
-use Rattle.answers.specs.declared.Answer.TheVariants.{Complete, Alarm}
+use Rattle.interpreter.specs.of_answers.Answers.{answer_by, start_of, headed}
+use Rattle.interpreter.specs.of_runners.Runs.{listed_of, program_run}
+use Rattle.interpreter.specs.of_answers.declared.Answer.{Answer}
+use Rattle.interpreter.specs.of_answers.declared.Answer.TheVariants.{Complete, Alarm}
 use Rattle.demands.specs.Demands.{Each, EachFrom, StandsIn, task}
 use Rattle.demands.specs.Steps.{Done, Linked}
 use Rattle.demands.proofs.Cycles.{every_step}
 use Rattle.block.specs.declared.Block.{Block}
 use Rattle.state.specs.declared.State.{State}
-use Rattle.verdicts.specs.Verdicts.{alarm_in}
-use Rattle.machine.specs.Blocks.{done_records}
+use Rattle.interpreter.specs.of_verdicts.Verdicts.{alarm_in}
+use Rattle.interpreter.specs.of_machine.Blocks.{done_records}
 use Rattle.demands.proofs.Fits.{block_fitting, feed_after_lem}
 use Rattle.moves.specs.Last.{last_of}
 use Rattle.moves.proofs.Last.{last_append}

@@ -8,12 +8,12 @@ use lib.ListN.{length, length-append}
 use Rattle.moves.specs.declared.Record.{Record}
 use Rattle.block.specs.declared.Block.{Block}
 use Rattle.state.specs.declared.State.{State}
-use Rattle.verdicts.specs.Verdicts.{alarm_in}
-use Rattle.machine.specs.Blocks.{done_records}
+use Rattle.interpreter.specs.of_verdicts.Verdicts.{alarm_in}
+use Rattle.interpreter.specs.of_machine.Blocks.{done_records}
 use Rattle.ahead.specs.Ahead.{onto}
-use Rattle.taking.specs.Steps.{Task, Step, block_on, run_after}
-use Rattle.taking.specs.declared.Run.{Run}
-use Rattle.runners.specs.Runs.{records_of}
+use Rattle.interpreter.specs.of_taking.Steps.{Task, Step, block_on, run_after}
+use Rattle.interpreter.specs.of_taking.declared.Run.{Run}
+use Rattle.interpreter.specs.of_runners.Runs.{records_of}
 use Rattle.demands.specs.Steps.{Done, Linked}
 use Rattle.demands.specs.Demands.{Each}
 use Rattle.demands.proofs.Linked.{free_own}

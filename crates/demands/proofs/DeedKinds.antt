@@ -17,9 +17,9 @@ use Rattle.axes.specs.Goes.{rapid_to, feed_to, thread_to, dwell_at}
 use Rattle.turning.specs.Turning as turn
 use Rattle.turning.specs.declared.Turning as turns
 use Rattle.turning.specs.declared.Pass as passes
-use Rattle.threading.specs.Threading as thread-of
+use Rattle.threading.specs.Threading as thread_of
 use Rattle.threading.specs.declared.Thread.{Thread}
-use Rattle.threading.specs.declared.Pass as thread-passes
+use Rattle.threading.specs.declared.Pass as thread_passes
 use Rattle.grooving.specs.Grooving as groove
 use Rattle.grooving.specs.declared.Groove.{Groove}
 use Rattle.grooving.proofs.Each.{grooving_every}
@@ -86,7 +86,7 @@ module _ (P : Record → Type 0) (h : OfKinds P) where
   unfolding turn.turning
   turning_each c = turn_passes (turn.pass_for c) _ c.infeed.start (turn.row c)
 
-  thread_passes_each : (p : thread-passes.Pass) (ls : List ℤ) → Every P (thread_of_lem.passes p ls)
+  thread_passes_each : (p : thread_passes.Pass) (ls : List ℤ) → Every P (thread_of_lem.passes p ls)
   unfolding thread_of_lem.passes thread_of_lem.pass_on
   thread_passes_each p [] = tt
   thread_passes_each p (l ∷ ls) =

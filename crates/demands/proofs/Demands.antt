@@ -13,16 +13,16 @@ use Rattle.settings.specs.declared.Settings.{Settings}
 use Rattle.state.specs.declared.State.{State}
 use Rattle.turning.specs.Turned.{Turned}
 use Rattle.threading.specs.Threaded.{Threaded}
-use Rattle.verdicts.specs.Verdicts.{alarm_in}
-use Rattle.machine.specs.Blocks.{done_records}
+use Rattle.interpreter.specs.of_verdicts.Verdicts.{alarm_in}
+use Rattle.interpreter.specs.of_machine.Blocks.{done_records}
 use Rattle.ahead.specs.Ahead.{most_calls}
 use Rattle.ahead.specs.declared.ProgramAt.{ProgramAt}
-use Rattle.taking.specs.Steps.{Task, task_of, Step, block_on}
-use Rattle.answers.specs.Answers.{count_of, answer_by, start_of}
+use Rattle.interpreter.specs.of_taking.Steps.{Task, task_of, Step, block_on}
+use Rattle.interpreter.specs.of_answers.Answers.{count_of, answer_by, start_of}
 use Rattle.interpreter.specs.Answers.{Result, refused, result_of, main_at, interpretation}
-use Rattle.runners.specs.Runs.{program_run}
-use Rattle.runners.specs.declared.Ending.{Ending}
-use Rattle.runners.specs.declared.Ending.TheVariants.{Returned, Ended, Stopped}
+use Rattle.interpreter.specs.of_runners.Runs.{program_run}
+use Rattle.interpreter.specs.of_runners.declared.Ending.{Ending}
+use Rattle.interpreter.specs.of_runners.declared.Ending.TheVariants.{Returned, Ended, Stopped}
 use Rattle.demands.specs.Opens.{opens_turning, wanted_in, opens_threading, thread_in}
 use Rattle.demands.specs.Demands.{Each, EachFrom, task, DemandThree, DemandThreeInBuffer, ThreadPromise, ThreadPromiseInBuffer}
 use Rattle.demands.proofs.Buffers.{every_read}

@@ -9,9 +9,9 @@ use Rattle.settings.specs.Points.{with_points}
 use Rattle.settings.specs.declared.Settings.{Settings}
 use Rattle.ahead.specs.Ahead.{most_calls, FoundAt}
 use Rattle.ahead.specs.declared.ProgramAt.{ProgramAt}
-use Rattle.taking.specs.Steps.{Task, task_of, Step}
-use Rattle.runners.specs.Runs.{program_run}
-use Rattle.answers.specs.Answers.{start_of}
+use Rattle.interpreter.specs.of_taking.Steps.{Task, task_of, Step}
+use Rattle.interpreter.specs.of_runners.Runs.{program_run}
+use Rattle.interpreter.specs.of_answers.Answers.{start_of}
 use Rattle.interpreter.specs.Answers.{Result, refused, result_of, main_at, interpretation, buffer_of}
 use Rattle.demands.specs.Demands.{Each, EachFrom, task}
 use Rattle.demands.specs.Origins.{CameFrom, BlockNamed, EveryBlockNamed}

@@ -26,14 +26,14 @@ use Rattle.asking.specs.Judge.{doing}
 use Rattle.deeds.specs.declared.Deed.{Deed}
 use Rattle.deeds.specs.declared.Deed.TheVariants as deed
 use Rattle.asking.proofs.Judging.{doing_fitting}
-use Rattle.verdicts.specs.Verdicts.{deed_in, alarm_in}
-use Rattle.machine.specs.Blocks.{done_records, done_state}
+use Rattle.interpreter.specs.of_verdicts.Verdicts.{deed_in, alarm_in}
+use Rattle.interpreter.specs.of_machine.Blocks.{done_records, done_state}
 use Rattle.settings.specs.Known.{InRange}
-use Rattle.writing.specs.Writes.{one_if, speed_of, tool_of, m_of, speed_and_tool, spindle_and_coolant, moved, done, stops, stopping, writes}
+use Rattle.interpreter.specs.of_writing.Writes.{one_if, speed_of, tool_of, m_of, speed_and_tool, spindle_and_coolant, moved, done, stops, stopping, writes}
 use Rattle.settings.specs.declared.Settings.{Settings}
-use Rattle.verdicts.proofs.Passing.{right_in}
-use Rattle.machine.proofs.Running.{sound_after}
-use Rattle.verdicts.proofs.Sent.{known_in}
+use Rattle.interpreter.proofs.of_verdicts.Passing.{right_in}
+use Rattle.interpreter.proofs.of_machine.Running.{sound_after}
+use Rattle.interpreter.proofs.of_verdicts.Sent.{known_in}
 
 -- ---- rows
 pub fitting_append : (v w : List Record) → AllFitting v → AllFitting w → AllFitting (v ++ w)

@@ -23,20 +23,20 @@ use Rattle.targets.proofs.Ranges.{start_sound}
 use Rattle.settings.specs.Known.{InRange}
 use Rattle.settings.specs.Points.{with_points}
 use Rattle.settings.specs.declared.Settings.{Settings}
-use Rattle.machine.proofs.Running.{done_few}
+use Rattle.interpreter.proofs.of_machine.Running.{done_few}
 use Rattle.moves.proofs.Room.{room_few, room_fits}
 use Rattle.ahead.specs.Ahead.{most_calls, onto, FoundAt}
 use Rattle.ahead.specs.declared.ProgramAt.{ProgramAt}
-use Rattle.taking.specs.Steps.{Task, task_of, Step, listed_by, block_on, run_after}
-use Rattle.taking.specs.declared.Run.{Run}
-use Rattle.answers.specs.Answers.{count_of, answer_by, start_of, headed}
+use Rattle.interpreter.specs.of_taking.Steps.{Task, task_of, Step, listed_by, block_on, run_after}
+use Rattle.interpreter.specs.of_taking.declared.Run.{Run}
+use Rattle.interpreter.specs.of_answers.Answers.{count_of, answer_by, start_of, headed}
 use Rattle.interpreter.specs.Answers.{Result, refused, result_of, main_at, longest_tape, interpretation, answer_of, laid_by}
-use Rattle.runners.specs.Runs.{listed_of, program_run}
-use Rattle.runners.proofs.Going.{length_listed}
-use Rattle.answers.specs.declared.Answer.{Answer}
-use Rattle.answers.specs.declared.Answer.TheVariants.{Complete, Alarm}
-use Rattle.runners.specs.declared.Ending.{Ending}
-use Rattle.runners.specs.declared.Ending.TheVariants.{Returned, Ended, Stopped}
+use Rattle.interpreter.specs.of_runners.Runs.{listed_of, program_run}
+use Rattle.interpreter.proofs.of_runners.Going.{length_listed}
+use Rattle.interpreter.specs.of_answers.declared.Answer.{Answer}
+use Rattle.interpreter.specs.of_answers.declared.Answer.TheVariants.{Complete, Alarm}
+use Rattle.interpreter.specs.of_runners.declared.Ending.{Ending}
+use Rattle.interpreter.specs.of_runners.declared.Ending.TheVariants.{Returned, Ended, Stopped}
 use Rattle.demands.specs.Demands.{Front, HoldsAfter, Named, Told, Owed, IsList, DemandOne, DemandTwo}
 use Rattle.demands.specs.Steps.{Linked}
 use Rattle.demands.proofs.Buffers.{AllFit, listed_fit, chain_fits, FrontBy, Form, form}

@@ -19,3 +19,11 @@ pub mod Strokes
 pub mod EveryBlock
 pub mod DeedKinds
 pub mod Arcs
+
+-- ---- passed on to the crates above, which do not list the crate themselves
+pub use Rattle.interpreter.proofs as of_interpreter
+pub use Rattle.interpreter.proofs.of_machine as of_machine
+pub use Rattle.interpreter.proofs.of_runners as of_runners
+pub use Rattle.interpreter.proofs.of_taking as of_taking
+pub use Rattle.interpreter.proofs.of_verdicts as of_verdicts
+pub use Rattle.interpreter.proofs.of_writing as of_writing

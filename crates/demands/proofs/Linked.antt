@@ -13,21 +13,21 @@ use Rattle.alarms.proofs.Above.{alarm_above}
 use Rattle.tape.specs.Lines.{line_at, text_at, lines}
 use Rattle.places.specs.declared.Found.{Found}
 use Rattle.places.specs.declared.Found.TheVariants.{At, Nowhere}
-use Rattle.verdicts.specs.Verdicts.{alarm_in}
-use Rattle.machine.specs.Blocks.{done_records}
+use Rattle.interpreter.specs.of_verdicts.Verdicts.{alarm_in}
+use Rattle.interpreter.specs.of_machine.Blocks.{done_records}
 use Rattle.finding.specs.Finding.{first_block}
-use Rattle.taking.specs.Steps.{Task, Step, block_on, onward_of, alarm_by, alarm_at, run_after, done_at, records_at, origin_at, taken_by, taken_from}
+use Rattle.interpreter.specs.of_taking.Steps.{Task, Step, block_on, onward_of, alarm_by, alarm_at, run_after, done_at, records_at, origin_at, taken_by, taken_from}
 use Rattle.ahead.specs.declared.ProgramAt.{ProgramAt}
 use Rattle.ahead.specs.declared.Frame.{Frame}
 use Rattle.ahead.specs.declared.Onward.{Onward}
 use Rattle.ahead.specs.declared.Onward.TheVariants.{On, Call, Jump, Return, End, Stop}
-use Rattle.taking.specs.declared.StepDone.{StepDone}
-use Rattle.taking.specs.declared.Run.{Run}
+use Rattle.interpreter.specs.of_taking.declared.StepDone.{StepDone}
+use Rattle.interpreter.specs.of_taking.declared.Run.{Run}
 use Rattle.ahead.proofs.Places.{FoundIn, first_on, OnwardOn}
-use Rattle.taking.proofs.Stepping.{onward_on}
-use Rattle.runners.specs.Runs.{Ran, ran, pre, go_back, and_then, go_on, onward, blocks, enough, repeated, called, entry, program_run}
-use Rattle.runners.specs.declared.Ending.{Ending}
-use Rattle.runners.specs.declared.Ending.TheVariants.{Returned, Ended, Stopped}
+use Rattle.interpreter.proofs.of_taking.Stepping.{onward_on}
+use Rattle.interpreter.specs.of_runners.Runs.{Ran, ran, pre, go_back, and_then, go_on, onward, blocks, enough, repeated, called, entry, program_run}
+use Rattle.interpreter.specs.of_runners.declared.Ending.{Ending}
+use Rattle.interpreter.specs.of_runners.declared.Ending.TheVariants.{Returned, Ended, Stopped}
 use Rattle.demands.specs.Steps.{Done, Linked}
 use Rattle.demands.proofs.Named.{given_above, block_named}
 

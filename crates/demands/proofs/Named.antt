@@ -24,15 +24,15 @@ use Rattle.state.specs.declared.State.{State}
 use Rattle.asking.specs.Judge.{feed_wrong, room_wrong, alarm_of}
 use Rattle.asking.specs.declared.Asked.{Asked}
 use Rattle.asking.specs.declared.Asks.{Asks}
-use Rattle.verdicts.specs.Verdicts.{asks_in, asked_in, alarm_in}
+use Rattle.interpreter.specs.of_verdicts.Verdicts.{asks_in, asked_in, alarm_in}
 use Rattle.settings.specs.declared.Settings.{Settings}
-use Rattle.taking.specs.Steps.{Task, block_on, onward_of, alarm_by, alarm_at}
+use Rattle.interpreter.specs.of_taking.Steps.{Task, block_on, onward_of, alarm_by, alarm_at}
 use Rattle.ahead.specs.declared.Frame.{Frame}
 use Rattle.ahead.specs.declared.Onward.{Onward}
 use Rattle.ahead.specs.declared.Onward.TheVariants.{On, Call, Jump, Return, End, Stop}
-use Rattle.taking.specs.declared.Run.{Run}
+use Rattle.interpreter.specs.of_taking.declared.Run.{Run}
 use Rattle.ahead.proofs.Places.{OnwardOn}
-use Rattle.taking.proofs.Stepping.{onward_on}
+use Rattle.interpreter.proofs.of_taking.Stepping.{onward_on}
 
 -- 0, or an alarm that is given where points are asked for or not
 abbrev pub NoneOrGiven : Bool → ℕ → Type 0

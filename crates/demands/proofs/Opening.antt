@@ -38,12 +38,12 @@ use Rattle.turning.proofs.Asked.{long_enough}
 use Rattle.turning.proofs.Turned.{turned}
 use Rattle.settings.specs.declared.Settings.{Settings}
 use Rattle.strokes.proofs.Beside.{NoFeeds}
-use Rattle.writing.specs.Writes.{one_if, speed_of, tool_of, m_of, speed_and_tool, spindle_and_coolant, done, stops, stopping, writes}
-use Rattle.verdicts.specs.Verdicts.{sending_of, deed_in, alarm_in}
-use Rattle.machine.specs.Blocks.{done_records}
+use Rattle.interpreter.specs.of_writing.Writes.{one_if, speed_of, tool_of, m_of, speed_and_tool, spindle_and_coolant, done, stops, stopping, writes}
+use Rattle.interpreter.specs.of_verdicts.Verdicts.{sending_of, deed_in, alarm_in}
+use Rattle.interpreter.specs.of_machine.Blocks.{done_records}
 use Rattle.demands.specs.Opens.{opens_turning, wanted_in}
 use Rattle.demands.proofs.Quiet.{Quiet, AllQuiet, quiet_append, turned_between}
-use Rattle.verdicts.proofs.Passing.{right_in}
+use Rattle.interpreter.proofs.of_verdicts.Passing.{right_in}
 
 -- ---- the deed of a G84 block is the cycle that its words ask for
 both_true : (a b : Bool) → (a && b) ≡ true → (a ≡ true) × (b ≡ true)

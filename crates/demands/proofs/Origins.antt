@@ -32,12 +32,12 @@ use Rattle.ahead.specs.declared.ProgramAt.{ProgramAt}
 use Rattle.ahead.specs.declared.Frame.{Frame}
 use Rattle.ahead.specs.declared.Onward.{Onward}
 use Rattle.ahead.specs.declared.Onward.TheVariants.{On, Call, Jump, Return, End, Stop}
-use Rattle.taking.specs.declared.StepDone.{StepDone}
-use Rattle.taking.specs.declared.Run.{Run}
-use Rattle.taking.specs.Steps.{Task, Step, block_on, onward_by, onward_of, alarm_at, run_after, done_at, origin_at, taken_by, taken_from}
-use Rattle.runners.specs.Runs.{Ran, pre, go_back, and_then, go_on, onward, blocks, enough, repeated, called, entry, program_run}
-use Rattle.runners.specs.declared.Ending.{Ending}
-use Rattle.runners.specs.declared.Ending.TheVariants.{Returned, Ended, Stopped}
+use Rattle.interpreter.specs.of_taking.declared.StepDone.{StepDone}
+use Rattle.interpreter.specs.of_taking.declared.Run.{Run}
+use Rattle.interpreter.specs.of_taking.Steps.{Task, Step, block_on, onward_by, onward_of, alarm_at, run_after, done_at, origin_at, taken_by, taken_from}
+use Rattle.interpreter.specs.of_runners.Runs.{Ran, pre, go_back, and_then, go_on, onward, blocks, enough, repeated, called, entry, program_run}
+use Rattle.interpreter.specs.of_runners.declared.Ending.{Ending}
+use Rattle.interpreter.specs.of_runners.declared.Ending.TheVariants.{Returned, Ended, Stopped}
 use Rattle.demands.specs.Demands.{Each}
 use Rattle.demands.specs.Origins.{is_program_line, Reaches, arrived, passing, CameFrom}
 use Rattle.demands.proofs.Linked.{done_free, done_alarm}

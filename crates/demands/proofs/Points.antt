@@ -37,7 +37,7 @@ use Rattle.reading.specs.Reading.{History, nothing_read, head_alarm, line_alarm,
 use Rattle.reading.specs.Filling.{Filled, nothing_filled, filed, room_alarm, alarm_with, Readings, after_line_with, read_lines_with, read_with, places_behind}
 use Rattle.reading.specs.declared.Read.{Read}
 use Rattle.reading.specs.declared.Read.TheVariants as read
-use Rattle.answers.specs.declared.Answer.TheVariants.{Alarm}
+use Rattle.interpreter.specs.of_answers.declared.Answer.TheVariants.{Alarm}
 use Rattle.interpreter.specs.Answers.{Result, refused, read_then, longest_tape, interpretation_by, interpretation, row_of, laid_by}
 use Rattle.demands.specs.Demands.{Named}
 use Rattle.demands.specs.Points.{OffNo21, WordsPointed, LinesPointed, Pointed, PointsSame}

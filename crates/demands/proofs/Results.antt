@@ -23,11 +23,11 @@ use Rattle.reading.specs.declared.Read.{Read}
 use Rattle.reading.specs.declared.Read.TheVariants as read
 use Rattle.settings.specs.declared.Settings.{Settings}
 use Rattle.ahead.specs.Ahead.{most_calls, FoundAt}
-use Rattle.taking.specs.Steps.{Task, task_of}
+use Rattle.interpreter.specs.of_taking.Steps.{Task, task_of}
 use Rattle.ahead.proofs.Places.{AllIn, lines_in, FoundIn, program_on}
 use Rattle.interpreter.specs.Answers.{Result, refused, result_of, main_at, main_by, main_run, read_then, longest_tape, interpretation_by, interpretation}
-use Rattle.answers.specs.Answers.{start_of}
-use Rattle.runners.specs.Runs.{program_run}
+use Rattle.interpreter.specs.of_answers.Answers.{start_of}
+use Rattle.interpreter.specs.of_runners.Runs.{program_run}
 use Rattle.settings.specs.Wrong.{settings_wrong}
 use Rattle.settings.specs.Known.{Right}
 use Rattle.settings.specs.Points.{with_points}

@@ -20,9 +20,9 @@ use Rattle.deeds.specs.declared.Deed.{Deed}
 use Rattle.deeds.specs.declared.Deed.TheVariants as deed
 use Rattle.scaling.specs.declared.Sending.{Sending}
 use Rattle.deeds.proofs.Made.{Starts, starts}
-use Rattle.verdicts.specs.Verdicts.{sending_of, deed_in}
-use Rattle.machine.specs.Blocks.{done_records, done_state}
-use Rattle.writing.specs.Writes.{one_if, speed_of, tool_of, m_of, speed_and_tool, spindle_and_coolant, moved, done, stops, stopping, writes}
+use Rattle.interpreter.specs.of_verdicts.Verdicts.{sending_of, deed_in}
+use Rattle.interpreter.specs.of_machine.Blocks.{done_records, done_state}
+use Rattle.interpreter.specs.of_writing.Writes.{one_if, speed_of, tool_of, m_of, speed_and_tool, spindle_and_coolant, moved, done, stops, stopping, writes}
 use Rattle.settings.specs.declared.Settings.{Settings}
 
 -- ---- of any coordinate: f is X or Z of a record

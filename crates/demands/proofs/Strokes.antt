@@ -39,11 +39,11 @@ use Rattle.deeds.specs.Known.{Right}
 use Rattle.deeds.specs.declared.Deed.{Deed}
 use Rattle.deeds.specs.declared.Deed.TheVariants as deed
 use Rattle.asking.specs.Judge.{doing}
-use Rattle.writing.specs.Writes.{one_if, speed_of, tool_of, m_of, speed_and_tool, spindle_and_coolant, done, stops, stopping, writes}
-use Rattle.verdicts.specs.Verdicts.{sending_of, deed_in, alarm_in}
-use Rattle.verdicts.proofs.Passing.{right_in}
-use Rattle.machine.specs.Blocks.{done_records}
-use Rattle.taking.specs.Steps.{Task}
+use Rattle.interpreter.specs.of_writing.Writes.{one_if, speed_of, tool_of, m_of, speed_and_tool, spindle_and_coolant, done, stops, stopping, writes}
+use Rattle.interpreter.specs.of_verdicts.Verdicts.{sending_of, deed_in, alarm_in}
+use Rattle.interpreter.proofs.of_verdicts.Passing.{right_in}
+use Rattle.interpreter.specs.of_machine.Blocks.{done_records}
+use Rattle.interpreter.specs.of_taking.Steps.{Task}
 use Rattle.interpreter.specs.Answers.{interpretation}
 use Rattle.demands.specs.Opens.{wanted_in}
 use Rattle.demands.specs.Strokes.{opens_cutting, way_in, first_axis, inward_wanted, inward_in, DepthLaw, DepthLawInBuffer}

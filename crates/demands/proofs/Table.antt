@@ -30,14 +30,14 @@ use Rattle.grooving.specs.Grooving.{wrong, step_count, steps, cut_count, cutting
 use Rattle.deeds.specs.Deed.{has_path, has_centre, straight_if, move_of, deed_of}
 use Rattle.scaling.specs.Scaled.{is_facing, turning_of, groove_of}
 use Rattle.asking.specs.Judge.{asks_of, alarm_of, doing}
-use Rattle.verdicts.specs.Verdicts.{sending_of, deed_in, asks_in, asked_in, alarm_in}
-use Rattle.machine.specs.Blocks.{done_records, done_state}
-use Rattle.writing.specs.Writes.{one_if, speed_of, tool_of, m_of, speed_and_tool, spindle_and_coolant, moved, done, stops, stopping, writes, other_count}
+use Rattle.interpreter.specs.of_verdicts.Verdicts.{sending_of, deed_in, asks_in, asked_in, alarm_in}
+use Rattle.interpreter.specs.of_machine.Blocks.{done_records, done_state}
+use Rattle.interpreter.specs.of_writing.Writes.{one_if, speed_of, tool_of, m_of, speed_and_tool, spindle_and_coolant, moved, done, stops, stopping, writes, other_count}
 use Rattle.ahead.specs.Ahead.{called_at, jumped_to, looked_by, looked_up}
-use Rattle.taking.specs.Steps.{block_in, block_on, onward_by, alarm_by, alarm_at, run_after, done_at, records_at, origin_at, taken_by, taken_from}
-use Rattle.answers.specs.Answers.{answer_by}
+use Rattle.interpreter.specs.of_taking.Steps.{block_in, block_on, onward_by, alarm_by, alarm_at, run_after, done_at, records_at, origin_at, taken_by, taken_from}
+use Rattle.interpreter.specs.of_answers.Answers.{answer_by}
 use Rattle.interpreter.specs.Answers.{result_of, main_by, main_run, read_then, interpretation_by, interpretation}
-use Rattle.runners.specs.Runs.{records_of, listed_of, pre, go_back, and_then, go_on, onward, blocks, enough, repeated, called}
+use Rattle.interpreter.specs.of_runners.Runs.{records_of, listed_of, pre, go_back, and_then, go_on, onward, blocks, enough, repeated, called}
 use Rattle.settings.specs.Wrong.{some_out, span_wrong, numbers_wrong, table_wrong, settings_wrong}
 use Rattle.demands.specs.Table.{table, all_hold}
 

@@ -28,10 +28,10 @@ use Rattle.deeds.specs.declared.Deed.{Deed}
 use Rattle.deeds.specs.declared.Deed.TheVariants as deed
 use Rattle.scaling.proofs.Wanted.{is_thread_wanted}
 use Rattle.asking.specs.Judge.{doing}
-use Rattle.writing.specs.Writes.{one_if, speed_of, tool_of, m_of, speed_and_tool, spindle_and_coolant, done, stops, stopping, writes}
-use Rattle.verdicts.specs.Verdicts.{sending_of, deed_in, alarm_in}
-use Rattle.verdicts.proofs.Passing.{right_in}
-use Rattle.machine.specs.Blocks.{done_records}
+use Rattle.interpreter.specs.of_writing.Writes.{one_if, speed_of, tool_of, m_of, speed_and_tool, spindle_and_coolant, done, stops, stopping, writes}
+use Rattle.interpreter.specs.of_verdicts.Verdicts.{sending_of, deed_in, alarm_in}
+use Rattle.interpreter.proofs.of_verdicts.Passing.{right_in}
+use Rattle.interpreter.specs.of_machine.Blocks.{done_records}
 use Rattle.demands.specs.Opens.{opens_threading, thread_in}
 use Rattle.demands.proofs.Opening.{motion_of_lem}
 

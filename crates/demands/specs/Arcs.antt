@@ -18,9 +18,9 @@ use Rattle.state.specs.Modal.{block_motion, settled}
 use Rattle.targets.specs.Target.{offset_of}
 use Rattle.state.specs.declared.State.{State}
 use Rattle.scaling.specs.Wanted.{arc_wanted}
-use Rattle.taking.specs.Steps.{Task, Step, block_on}
-use Rattle.runners.specs.Runs.{records_of}
-use Rattle.answers.specs.Answers.{count_of}
+use Rattle.interpreter.specs.of_taking.Steps.{Task, Step, block_on}
+use Rattle.interpreter.specs.of_runners.Runs.{records_of}
+use Rattle.interpreter.specs.of_answers.Answers.{count_of}
 use Rattle.interpreter.specs.Answers.{Result, interpretation, laid_by, buffer_of}
 use Rattle.demands.specs.Demands.{Each, EachFrom, StandsIn, task}
 

@@ -21,12 +21,12 @@ use Rattle.demands.specs.Placed.{entries_of, accepted_in}
 use Rattle.demands.specs.Opens.{opens_turning, wanted_in, opens_threading, thread_in}
 use Rattle.settings.specs.Points.{with_points}
 use Rattle.settings.specs.declared.Settings.{Settings}
-use Rattle.taking.specs.Steps.{Task, task_of, Step, block_on}
-use Rattle.answers.specs.Answers.{number_of, place_of, count_of}
+use Rattle.interpreter.specs.of_taking.Steps.{Task, task_of, Step, block_on}
+use Rattle.interpreter.specs.of_answers.Answers.{number_of, place_of, count_of}
 use Rattle.interpreter.specs.Answers.{Result, longest_tape, interpretation, places_of, buffer_of, laid_by}
-use Rattle.runners.specs.Runs.{listed_of}
-use Rattle.answers.specs.declared.Answer.{Answer}
-use Rattle.answers.specs.declared.Answer.TheVariants.{Complete}
+use Rattle.interpreter.specs.of_runners.Runs.{listed_of}
+use Rattle.interpreter.specs.of_answers.declared.Answer.{Answer}
+use Rattle.interpreter.specs.of_answers.declared.Answer.TheVariants.{Complete}
 
 -- P of each step
 unfoldable pub Each : (Step → Type 0) → List Step → Type 0

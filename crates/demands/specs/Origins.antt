@@ -10,7 +10,7 @@ use Rattle.block.specs.declared.Head.TheVariants.{Blank, ProgramLine, BlockLine,
 use Rattle.finding.specs.Finding.{find_program}
 use Rattle.places.specs.declared.Found.TheVariants.{At}
 use Rattle.settings.specs.declared.Settings.{Settings}
-use Rattle.taking.specs.Steps.{Task, Step}
+use Rattle.interpreter.specs.of_taking.Steps.{Task, Step}
 use Rattle.interpreter.specs.Answers.{interpretation, buffer_of}
 use Rattle.demands.specs.Demands.{EachFrom, task}
 

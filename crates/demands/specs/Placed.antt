@@ -10,7 +10,7 @@ use Rattle.block.specs.declared.Head.TheVariants.{Blank, ProgramLine, BlockLine,
 use Rattle.reading.specs.Filling.{accepted_of, most_places}
 use Rattle.settings.specs.Wrong.{settings_wrong}
 use Rattle.settings.specs.declared.Settings.{Settings}
-use Rattle.answers.specs.declared.Answer.TheVariants.{Alarm}
+use Rattle.interpreter.specs.of_answers.declared.Answer.TheVariants.{Alarm}
 use Rattle.interpreter.specs.Answers.{longest_tape, first_interpretation, interpretation, answer_of}
 
 -- the lines that are read and accepted: none where 1 to 3 come before

@@ -6,7 +6,7 @@ use Rattle.settings.specs.Points.{with_points}
 use Rattle.settings.specs.declared.Settings.{Settings}
 use Rattle.tape.specs.Lines.{seek_from, opens_tape, Text, lines}
 use Rattle.addresses.specs.Words.{Words, word, ended, faulty, lacks_point, words_from}
-use Rattle.answers.specs.declared.Answer.TheVariants.{Alarm}
+use Rattle.interpreter.specs.of_answers.declared.Answer.TheVariants.{Alarm}
 use Rattle.interpreter.specs.Answers.{answer_of, places_of, buffer_of}
 
 -- with the setting off, nothing gives 21

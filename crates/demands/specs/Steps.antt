@@ -1,10 +1,10 @@
 -- The steps of a run as a chain: each begins in the run that the one before has left. Laws about runs go along this chain and know nothing of calls, repeats and fuel.
 use Rattle.std.specs.Prelude.{◌≡◌, List, [], ◌∷◌}
-use Rattle.machine.specs.Blocks.{done_records}
+use Rattle.interpreter.specs.of_machine.Blocks.{done_records}
 use Rattle.ahead.specs.Ahead.{onto}
-use Rattle.taking.specs.Steps.{Task, Step, block_on, alarm_at, run_after}
+use Rattle.interpreter.specs.of_taking.Steps.{Task, Step, block_on, alarm_at, run_after}
 use Rattle.ahead.specs.declared.Frame.{Frame}
-use Rattle.taking.specs.declared.Run.{Run}
+use Rattle.interpreter.specs.of_taking.declared.Run.{Run}
 
 -- a step that was taken from the run r: its block had no alarm, in some program and with some calls left (the frame), and its records are those of the block
 pub record Done (t : Task) (r : Run) (st : Step) : Type 0 where

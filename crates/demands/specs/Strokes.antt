@@ -14,7 +14,7 @@ use Rattle.targets.specs.Target.{offset_of}
 use Rattle.state.specs.declared.State.{State}
 use Rattle.targets.specs.declared.Pair.{Pair}
 use Rattle.scaling.specs.Wanted.{z_before_x, x_axis_wanted, z_axis_wanted}
-use Rattle.taking.specs.Steps.{Task, Step, block_on}
+use Rattle.interpreter.specs.of_taking.Steps.{Task, Step, block_on}
 use Rattle.interpreter.specs.Answers.{interpretation, buffer_of}
 use Rattle.demands.specs.Demands.{Each, EachFrom, StandsIn, task}
 

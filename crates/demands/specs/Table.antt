@@ -15,9 +15,9 @@ use Rattle.addresses.specs.declared.NextWord.{NextWord}
 use Rattle.addresses.specs.declared.NextWord.TheVariants as next
 use Rattle.reading.specs.Filling.{most_places}
 use Rattle.panel.specs.Listmoves.{listmoves, no_offsets}
-use Rattle.answers.specs.Answers.{number_of, place_of, count_of}
+use Rattle.interpreter.specs.of_answers.Answers.{number_of, place_of, count_of}
 use Rattle.interpreter.specs.Answers.{Result, interpretation}
-use Rattle.runners.specs.Runs.{records_of, listed_of}
+use Rattle.interpreter.specs.of_runners.Runs.{records_of, listed_of}
 
 -- what comes of a tape, with a table of places of 21,845 entries and a buffer of 64,008 bytes
 abbrev pub comes_of : String → Result

@@ -2,3 +2,6 @@
 // Read specs/Demands.antt for the demands and specs/Table.antt for 01's pieces that must come out so.
 #![tactic(auto)]
 
+pub use interpreter;
+pub use interpreter::answers;
+

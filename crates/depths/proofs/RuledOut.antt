@@ -44,7 +44,7 @@ cut_once p = absurd (omega (arith, p.by_rule.many))
 -- ---- constant cuts, D6 10,000 with D3 3,000: A THIN LAST CUT
 pub thin_last : Promised EvenDepth 3000 10_000 (3000 ∷ 6000 ∷ 9000 ∷ 10_000 ∷ []) → ⊥
 unfolding taken
-thin_last p = even.thin-last p.by_rule.evenly
+thin_last p = even.thin_last p.by_rule.evenly
 
 -- as a cut number of four: ONE CUT TOO MANY
 pub five_for_four : Promised EvenNumber 4 10_000 (2000 ∷ 4000 ∷ 6000 ∷ 8000 ∷ 10_000 ∷ []) → ⊥

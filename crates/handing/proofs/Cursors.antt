@@ -54,10 +54,10 @@ module _ (p : Plan) where
 
   none_from : (l : List Record) (d : Due) → over p d ≡ true → rest_from p l d ≡ []
   unfolding rest_from
-  none_from l (Turning c) e = cycle_none (turn.over c) (turning.rest-none c) e
-  none_from l (Threading c) e = cycle_none (thread.over c) (threading.rest-none c) e
-  none_from l (Grooving c) e = cycle_none (groove.over c) (grooving.rest-none c) e
-  none_from l (Drilling c) e = cycle_none (drill.over c) (drilling.rest-none c) e
+  none_from l (Turning c) e = cycle_none (turn.over c) (turning.rest_none c) e
+  none_from l (Threading c) e = cycle_none (thread.over c) (threading.rest_none c) e
+  none_from l (Grooving c) e = cycle_none (groove.over c) (grooving.rest_none c) e
+  none_from l (Drilling c) e = cycle_none (drill.over c) (drilling.rest_none c) e
   none_from l (Single k) e = stage_none l k e
 
   pub rest_none : (d : Due) → over p d ≡ true → rest_of p d ≡ []
@@ -71,10 +71,10 @@ module _ (p : Plan) where
 
   last_from : (l : List Record) (d : Due) → cycle_over d ≡ true → over p d ≡ false → rest_from p l d ≡ single_of p Stop ∷ []
   unfolding rest_from
-  last_from l (Turning c) h e = cycle_last (turn.over c) (turning.rest-none c) h e
-  last_from l (Threading c) h e = cycle_last (thread.over c) (threading.rest-none c) h e
-  last_from l (Grooving c) h e = cycle_last (groove.over c) (grooving.rest-none c) h e
-  last_from l (Drilling c) h e = cycle_last (drill.over c) (drilling.rest-none c) h e
+  last_from l (Turning c) h e = cycle_last (turn.over c) (turning.rest_none c) h e
+  last_from l (Threading c) h e = cycle_last (thread.over c) (threading.rest_none c) h e
+  last_from l (Grooving c) h e = cycle_last (groove.over c) (grooving.rest_none c) h e
+  last_from l (Drilling c) h e = cycle_last (drill.over c) (drilling.rest_none c) h e
   last_from l (Single k) h e = never h
 
   pub stop_next : {r : Record} (d : Due) → Sound p d → cycle_over d ≡ true → over p d ≡ false → r ≡ single_of p Stop → Makes p d r (Single Over)

@@ -6,10 +6,10 @@ use mathlib.Core.List.{[], ◌∷◌}
 use Rattle.moves.specs.Form.{stamped}
 use Rattle.moves.specs.declared.Record.{Record}
 use Rattle.moves.specs.declared.Origin.{Origin}
-use Rattle.stages.specs.Cursor as cursor
-use Rattle.stages.specs.declared.Cursor.{Cursor}
-use Rattle.stages.specs.declared.Due.{Due}
-use Rattle.handing.proofs.Cursors.{rest_none}
+use Rattle.taking.specs.of_stages.Cursor as cursor
+use Rattle.taking.specs.of_stages.declared.Cursor.{Cursor}
+use Rattle.taking.specs.of_stages.declared.Due.{Due}
+use Rattle.taking.proofs.of_handing.Cursors.{rest_none}
 use Rattle.taking.specs.declared.Hand.{Hand}
 use Rattle.taking.specs.declared.Hand.TheVariants.{Nothing, Block}
 use Rattle.taking.specs.Hands.{in_hand, HandSound}

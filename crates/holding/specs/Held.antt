@@ -1,6 +1,6 @@
 -- What is known of what is in hand.
 use Rattle.std.specs.Prelude.{◌≡◌, false}
-use Rattle.stages.specs.Cursor as cursor
+use Rattle.taking.specs.of_stages.Cursor as cursor
 use Rattle.taking.specs.declared.Hand.{Hand}
 use Rattle.taking.specs.declared.Hand.TheVariants.{Nothing, Block}
 use Rattle.taking.specs.Hands.{HandSound}

@@ -11,18 +11,18 @@ use borrow.Author.Tests.{not-true}
 use Rattle.telling.proofs.Tells.{never}
 use Rattle.moves.specs.Form.{record_size}
 use Rattle.moves.specs.declared.Origin.{Origin}
-use Rattle.stages.specs.Cursor as cursor
-use Rattle.stages.specs.declared.Due.{Due}
-use Rattle.stages.specs.declared.Due.TheVariants.{Turning, Threading, Grooving, Drilling, Single}
-use Rattle.stages.specs.declared.Plan.{Plan}
-use Rattle.resumable.specs.Kept.{is_lead, kept}
+use Rattle.cyclehand.specs.of_stages.Cursor as cursor
+use Rattle.cyclehand.specs.of_stages.declared.Due.{Due}
+use Rattle.cyclehand.specs.of_stages.declared.Due.TheVariants.{Turning, Threading, Grooving, Drilling, Single}
+use Rattle.cyclehand.specs.of_stages.declared.Plan.{Plan}
+use Rattle.cyclehand.specs.of_resumable.Kept.{is_lead, kept}
 use Rattle.cyclewords.specs.Sizes.{due_words}
-use Rattle.handwords.specs.Due.{is_deed, slot_of, due_by}
-use Rattle.handwords.proofs.Slots.{deed_some, deed_due}
-use Rattle.passhand.specs.declared.Gave.{Gave}
-use Rattle.passhand.specs.declared.Gave.TheVariants.{Given, Unfit, Other}
-use Rattle.passhand.specs.Gives.{is_cycle, has_next, has_next_in, Holds, Laid, Gives}
-use Rattle.planwords.specs.Plan.{plan_of, origin_of}
+use Rattle.cyclehand.specs.of_handwords.Due.{is_deed, slot_of, due_by}
+use Rattle.cyclehand.proofs.of_handwords.Slots.{deed_some, deed_due}
+use Rattle.cyclehand.specs.of_passhand.declared.Gave.{Gave}
+use Rattle.cyclehand.specs.of_passhand.declared.Gave.TheVariants.{Given, Unfit, Other}
+use Rattle.cyclehand.specs.of_passhand.Gives.{is_cycle, has_next, has_next_in, Holds, Laid, Gives}
+use Rattle.statewords.specs.of_planwords.Plan.{plan_of, origin_of}
 use Rattle.inhand.specs.State.{state_words, due_in, plan_in, is_empty_in, GiveMeets}
 use Rattle.statewords.proofs.Puts.{nothing_put, due_is_put}
 use Rattle.inhand.proofs.Giving.{Read, read_sound, unfit, last, more}

@@ -10,19 +10,19 @@ use Rattle.telling.proofs.Tells.{never}
 use Rattle.moves.specs.Form.{record_bytes, listed, stamped}
 use Rattle.moves.specs.declared.Record.{Record}
 use Rattle.moves.specs.declared.Origin.{Origin}
-use Rattle.stages.specs.Cursor as cursor
-use Rattle.stages.specs.declared.Stage.TheVariants.{Speed, Tool, Spindle, Coolant}
-use Rattle.stages.specs.declared.Due.{Due}
-use Rattle.stages.specs.declared.Due.TheVariants.{Turning, Threading, Grooving, Drilling, Single}
-use Rattle.stages.specs.declared.Plan.{Plan}
-use Rattle.resumable.specs.Kept.{kept, with_deed, Fits}
-use Rattle.resumable.proofs.Kept.{planned, whole_deed, own, same_rest, kept_fits}
+use Rattle.cyclehand.specs.of_stages.Cursor as cursor
+use Rattle.cyclehand.specs.of_stages.declared.Stage.TheVariants.{Speed, Tool, Spindle, Coolant}
+use Rattle.cyclehand.specs.of_stages.declared.Due.{Due}
+use Rattle.cyclehand.specs.of_stages.declared.Due.TheVariants.{Turning, Threading, Grooving, Drilling, Single}
+use Rattle.cyclehand.specs.of_stages.declared.Plan.{Plan}
+use Rattle.cyclehand.specs.of_resumable.Kept.{kept, with_deed, Fits}
+use Rattle.cyclehand.proofs.of_resumable.Kept.{planned, whole_deed, own, same_rest, kept_fits}
 use Rattle.cells.specs.Numbers.{at}
-use Rattle.handwords.specs.Due.{slot_of, due_by}
-use Rattle.planwords.specs.Plan.{plan_of, origin_of}
-use Rattle.taking.specs.declared.Hand.{Hand}
-use Rattle.taking.specs.declared.Hand.TheVariants.{Nothing, Block}
-use Rattle.taking.specs.Hands.{in_hand}
+use Rattle.cyclehand.specs.of_handwords.Due.{slot_of, due_by}
+use Rattle.statewords.specs.of_planwords.Plan.{plan_of, origin_of}
+use Rattle.holding.specs.of_taking.declared.Hand.{Hand}
+use Rattle.holding.specs.of_taking.declared.Hand.TheVariants.{Nothing, Block}
+use Rattle.holding.specs.of_taking.Hands.{in_hand}
 use Rattle.holding.specs.Held.{Held}
 use Rattle.holding.proofs.Handing.{taken_last, taken_more}
 use Rattle.inhand.specs.State.{due_in, plan_in, is_empty_in, hand_from, hand_in, PutMeets, GiveMeets}

@@ -3,7 +3,7 @@ use Rattle.std.specs.Prelude.{◌≡◌, Bool, true, false, List, ◌∷◌, ℕ
 use Rattle.octets.specs.Bytes.{laid}
 use Rattle.moves.specs.Form.{record_bytes}
 use Rattle.moves.specs.declared.Listed.{Listed}
-use Rattle.taking.specs.Hands.{in_hand}
+use Rattle.holding.specs.of_taking.Hands.{in_hand}
 use Rattle.holding.specs.Held.{Held}
 pub use Rattle.statewords.specs.State.{state_words, due_in, plan_in, going_in, is_empty_in, hand_from, hand_kept, PutMeets}
 unfoldable pub use Rattle.statewords.specs.State.{hand_in, run_in}

@@ -27,21 +27,21 @@ use Rattle.targets.proofs.Ranges.{start_sound}
 use Rattle.settings.specs.declared.Settings.{Settings}
 use Rattle.moves.proofs.Room.{room_few}
 use Rattle.ahead.specs.Ahead.{most_calls}
-use Rattle.taking.specs.Steps.{Task, task_of}
-use Rattle.steps.specs.Meets.{Ready, Fit}
-use Rattle.taking.specs.declared.Run.{Run}
+use Rattle.answers.specs.of_taking.Steps.{Task, task_of}
+use Rattle.answers.specs.of_steps.Meets.{Ready, Fit}
+use Rattle.answers.specs.of_taking.declared.Run.{Run}
 use Rattle.answers.specs.declared.Answer.{Answer}
 use Rattle.answers.specs.declared.Answer.TheVariants.{Alarm}
-use Rattle.runners.specs.declared.Outcome.{Outcome}
-use Rattle.runners.specs.Runs.{listed_of, program_run}
-use Rattle.runners.specs.Meets.{Begins, RanMeets}
+use Rattle.answers.specs.of_runners.declared.Outcome.{Outcome}
+use Rattle.answers.specs.of_runners.Runs.{listed_of, program_run}
+use Rattle.answers.specs.of_runners.Meets.{Begins, RanMeets}
 use Rattle.settings.specs.Points.{with_points}
 use Rattle.settings.specs.Wrong.{settings_wrong}
 use Rattle.settings.specs.Known.{Right}
 use Rattle.interpreter.specs.Answers.{Result, refused, result_of, main_at, main_by, main_run, read_then, longest_tape, interpretation_by, interpretation, row_of, places_of, laid_by}
 use Rattle.interpreter.specs.Known.{Lent, ReadIn}
 use Rattle.answers.specs.Answers.{answer_by, start_of, headed}
-use Rattle.runners.proofs.Going.{wrote_length}
+use Rattle.answers.proofs.of_runners.Going.{wrote_length}
 
 -- an answer and a buffer, as a result has them
 abbrev pub Gives : Result → List ℕ → Answer → List ℕ → Type 0

@@ -17,11 +17,11 @@ use Rattle.reading.specs.declared.Read.TheVariants as read
 use Rattle.settings.specs.declared.Settings.{Settings}
 use Rattle.ahead.specs.Ahead.{most_calls}
 use Rattle.ahead.specs.declared.ProgramAt.{ProgramAt}
-use Rattle.taking.specs.Steps.{Task, task_of, Step}
+use Rattle.answers.specs.of_taking.Steps.{Task, task_of, Step}
 use Rattle.answers.specs.declared.Answer.{Answer}
 use Rattle.answers.specs.declared.Answer.TheVariants.{Alarm}
 use Rattle.answers.specs.Answers.{answer_by, start_of, headed}
-use Rattle.runners.specs.Runs.{Ran, listed_of, program_run}
+use Rattle.answers.specs.of_runners.Runs.{Ran, listed_of, program_run}
 use Rattle.settings.specs.Points.{with_points}
 use Rattle.settings.specs.Wrong.{settings_wrong}
 

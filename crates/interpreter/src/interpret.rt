@@ -2,11 +2,12 @@
 // (01: "1 to 4 in that order; then lines from the front ..; then 10 for the main; then blocks as run".)
 ghost use Rattle.std.specs.Prelude.{◌≡◌, ◌≤◌, length};
 ghost use Rattle.moves.specs.Form.{header_size};
-ghost use Rattle.taking.specs.Steps.{task_of};
+ghost use Rattle.answers.specs.of_taking.Steps.{task_of};
 ghost use Rattle.interpreter.specs.Answers.{main_run, laid_by, read_then, answer_of, places_of, buffer_of};
 ghost use Rattle.interpreter.specs.Known.{Lent, ReadIn};
 ghost use Rattle.settings.specs.Known.{Right};
 
+use answers::runners;
 use ahead::ProgramAt;
 use answers::Answer;
 use places::Found;

@@ -3,3 +3,7 @@
 #![tactic(auto)]
 
 pub mod interpret;
+
+pub use answers::wording;
+pub use answers::taking;
+pub use answers;

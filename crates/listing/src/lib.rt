@@ -4,3 +4,5 @@
 #![tactic(auto)]
 
 pub mod lines;
+
+pub use answers;

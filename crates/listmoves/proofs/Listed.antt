@@ -12,11 +12,11 @@ use Rattle.octets.specs.Bytes.{laid}
 use Rattle.moves.specs.Form.{record_limit, record_start, room_of}
 use Rattle.panel.specs.Listmoves.{listmoves, no_offsets}
 use Rattle.settings.specs.declared.Settings.{Settings}
-use Rattle.answers.specs.Answers.{count_of}
+use Rattle.listing.specs.of_answers.Answers.{count_of}
 use Rattle.reading.specs.Filling.{most_places}
-use Rattle.interpreter.specs.Answers.{answer_of, buffer_of}
-use Rattle.answers.specs.declared.Answer.{Answer}
-use Rattle.answers.specs.declared.Answer.TheVariants.{Complete, Alarm}
+use Rattle.demands.specs.of_interpreter.Answers.{answer_of, buffer_of}
+use Rattle.listing.specs.of_answers.declared.Answer.{Answer}
+use Rattle.listing.specs.of_answers.declared.Answer.TheVariants.{Complete, Alarm}
 use Rattle.demands.proofs.Holding.{all_owed}
 use Rattle.listing.specs.Listing.{longest_head, longest_record_line, longest_alarm, is_made, listing_of, text_of}
 use Rattle.listmoves.specs.Printed.{fresh_buffer, printed, text_size}

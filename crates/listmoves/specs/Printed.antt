@@ -3,7 +3,7 @@
 use Rattle.std.specs.Prelude.{List, ℕ, ◌+◌, ◌*◌, length, replicate}
 use Rattle.moves.specs.Form.{record_limit, record_start}
 use Rattle.reading.specs.Filling.{most_places}
-use Rattle.interpreter.specs.Answers.{answer_of, buffer_of}
+use Rattle.demands.specs.of_interpreter.Answers.{answer_of, buffer_of}
 use Rattle.panel.specs.Listmoves.{listmoves, no_offsets}
 use Rattle.listing.specs.Listing.{longest_head, longest_record_line, listing_of}
 

@@ -7,6 +7,7 @@ ghost use Rattle.std.specs.Io.KnownBytes.{Appends};
 ghost use Rattle.octets.specs.Bytes.{laid};
 ghost use Rattle.listmoves.specs.Printed.{fresh_buffer, printed, text_size};
 
+use demands::interpreter;
 use std::io;
 use std::io::{Read, Write};
 

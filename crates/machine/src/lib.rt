@@ -9,6 +9,12 @@ ghost use Rattle.state.specs.Known.{Sound};
 ghost use Rattle.settings.specs.Known.{Table, InRange};
 ghost use Rattle.machine.specs.Blocks.{block_records, outcome_of};
 
+pub use writing;
+pub use verdicts;
+pub use putting::stages;
+pub use putting;
+pub use putting::opening;
+pub use putting::handing;
 use block::Block;
 use moves::Origin;
 use settings::Settings;

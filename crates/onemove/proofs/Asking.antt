@@ -13,31 +13,31 @@ use Rattle.moves.specs.Form.{record_size, record_bytes}
 use Rattle.moves.specs.declared.Listed.{Listed}
 use Rattle.panel.specs.Row.{unfit, settings_of}
 use Rattle.settings.specs.Wrong.{settings_wrong}
-use Rattle.answers.specs.declared.Answer.{Answer}
+use Rattle.packing.specs.of_answers.declared.Answer.{Answer}
 use Rattle.ahead.specs.Ahead.{FoundAt}
 use Rattle.ahead.specs.declared.ProgramAt.{ProgramAt}
 use Rattle.ahead.proofs.Places.{FoundIn, program_on}
-use Rattle.taking.specs.Steps.{Task}
-use Rattle.taking.specs.Hands.{in_hand}
-use Rattle.taking.specs.declared.Hand.{Hand}
-use Rattle.taking.specs.declared.Hand.TheVariants.{Nothing, Block}
-use Rattle.resuming.specs.Handed.{Made, Left, Takes}
-use Rattle.resuming.specs.declared.Handed.TheVariants as handed
-use Rattle.resuming.specs.Engines.{ahead, joined, remaining}
-use Rattle.paused.specs.Kept.{Fitting, Answers}
-use Rattle.paused.specs.declared.Phase.{Phase}
-use Rattle.paused.specs.declared.Phase.TheVariants.{Running, Over}
-use Rattle.paused.specs.declared.Going.{Going}
-use Rattle.returning.specs.Standing.{phase_of, standing, left_for, task_for, Placed, PlacedOn}
+use Rattle.packing.specs.of_taking.Steps.{Task}
+use Rattle.packing.specs.of_taking.Hands.{in_hand}
+use Rattle.packing.specs.of_taking.declared.Hand.{Hand}
+use Rattle.packing.specs.of_taking.declared.Hand.TheVariants.{Nothing, Block}
+use Rattle.runbounds.specs.of_resuming.Handed.{Made, Left, Takes}
+use Rattle.runbounds.specs.of_resuming.declared.Handed.TheVariants as handed
+use Rattle.runbounds.specs.of_resuming.Engines.{ahead, joined, remaining}
+use Rattle.runbounds.specs.of_paused.Kept.{Fitting, Answers}
+use Rattle.runbounds.specs.of_paused.declared.Phase.{Phase}
+use Rattle.runbounds.specs.of_paused.declared.Phase.TheVariants.{Running, Over}
+use Rattle.runbounds.specs.of_paused.declared.Going.{Going}
+use Rattle.starting.specs.of_returning.Standing.{phase_of, standing, left_for, task_for, Placed, PlacedOn}
 use Rattle.starting.specs.Starts.{Ready}
-use Rattle.holding.proofs.Handing.{none_in_hand}
-use Rattle.holding.specs.Held.{Held}
+use Rattle.stepping.proofs.of_holding.Handing.{none_in_hand}
+use Rattle.stepping.specs.of_holding.Held.{Held}
 use Rattle.stepping.specs.Meets.{TurnMeets}
 use Rattle.stepping.specs.declared.Turned.{Turned}
 use Rattle.inhand.specs.State.{state_words, hand_in, run_in, Given}
 use Rattle.packing.specs.declared.Told.{Told}
 use Rattle.packing.specs.declared.Told.TheVariants as told
-use Rattle.runwords.specs.Taken.{going_of, phase_of as word_phase}
+use Rattle.runbounds.specs.of_runwords.Taken.{going_of, phase_of as word_phase}
 use Rattle.inhand.specs.State.{is_empty_in, going_in, GiveMeets}
 use Rattle.telling.proofs.Tells.{never}
 use Rattle.settings.specs.declared.Settings.{Settings}

@@ -8,22 +8,22 @@ use Rattle.octets.specs.Bytes.{laid}
 use Rattle.moves.specs.Form.{stamped, record_bytes}
 use Rattle.moves.specs.declared.Origin.{Origin}
 use Rattle.moves.specs.declared.Listed.{Listed}
-use Rattle.stages.specs.Cursor.{over, Sound}
-use Rattle.stages.specs.declared.Stage.TheVariants.{Speed, Tool, Spindle, Coolant, Deed, Centre, Stop, Over}
-use Rattle.stages.specs.declared.Due.{Due}
-use Rattle.stages.specs.declared.Due.TheVariants.{Turning, Threading, Grooving, Drilling, Single}
-use Rattle.stages.specs.declared.Plan.{Plan}
-use Rattle.stages.specs.declared.Cursor.{Cursor}
-use Rattle.resumable.specs.Kept.{kept, with_deed, Fits}
-use Rattle.resumable.proofs.Kept.{same_rest, kept_fits, own, whole_deed}
-use Rattle.taking.specs.declared.Hand.{Hand}
-use Rattle.taking.specs.declared.Hand.TheVariants.{Nothing, Block}
-use Rattle.taking.specs.Hands.{in_hand}
-use Rattle.holding.specs.Held.{Held}
+use Rattle.packing.specs.of_stages.Cursor.{over, Sound}
+use Rattle.packing.specs.of_stages.declared.Stage.TheVariants.{Speed, Tool, Spindle, Coolant, Deed, Centre, Stop, Over}
+use Rattle.packing.specs.of_stages.declared.Due.{Due}
+use Rattle.packing.specs.of_stages.declared.Due.TheVariants.{Turning, Threading, Grooving, Drilling, Single}
+use Rattle.packing.specs.of_stages.declared.Plan.{Plan}
+use Rattle.packing.specs.of_stages.declared.Cursor.{Cursor}
+use Rattle.inhand.specs.of_resumable.Kept.{kept, with_deed, Fits}
+use Rattle.inhand.proofs.of_resumable.Kept.{same_rest, kept_fits, own, whole_deed}
+use Rattle.packing.specs.of_taking.declared.Hand.{Hand}
+use Rattle.packing.specs.of_taking.declared.Hand.TheVariants.{Nothing, Block}
+use Rattle.packing.specs.of_taking.Hands.{in_hand}
+use Rattle.stepping.specs.of_holding.Held.{Held}
 use Rattle.inhand.specs.State.{state_words, hand_in, run_in, hand_kept, PutMeets}
-use Rattle.answers.specs.declared.Answer.{Answer}
-use Rattle.paused.specs.declared.Phase.{Phase}
-use Rattle.paused.specs.declared.Phase.TheVariants as phase
+use Rattle.packing.specs.of_answers.declared.Answer.{Answer}
+use Rattle.runbounds.specs.of_paused.declared.Phase.{Phase}
+use Rattle.runbounds.specs.of_paused.declared.Phase.TheVariants as phase
 use Rattle.stepping.specs.Meets.{Stands}
 use Rattle.stepping.specs.declared.Turned.{Turned}
 use Rattle.packing.specs.declared.Told.TheVariants as told

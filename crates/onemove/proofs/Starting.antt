@@ -10,19 +10,19 @@ use lib.ListN.{length, take}
 use Rattle.alarms.specs.Numbers.{bad_settings}
 use Rattle.panel.specs.Row.{unfit, settings_of}
 use Rattle.settings.specs.declared.Settings.{Settings}
-use Rattle.interpreter.specs.Answers.{refused, places_of}
-use Rattle.taking.specs.declared.Hand.{Hand}
-use Rattle.taking.specs.declared.Hand.TheVariants.{Nothing}
-use Rattle.resuming.specs.Handed.{Made, left_of, roomy}
-use Rattle.paused.specs.Kept.{Fitting}
-use Rattle.paused.specs.declared.Phase.{Phase}
-use Rattle.paused.specs.declared.Phase.TheVariants.{Running, Over}
-use Rattle.paused.specs.declared.Going.{Going}
-use Rattle.returning.specs.Standing.{left_for, task_for, PlacedOn}
+use Rattle.runbounds.specs.of_interpreter.Answers.{refused, places_of}
+use Rattle.packing.specs.of_taking.declared.Hand.{Hand}
+use Rattle.packing.specs.of_taking.declared.Hand.TheVariants.{Nothing}
+use Rattle.runbounds.specs.of_resuming.Handed.{Made, left_of, roomy}
+use Rattle.runbounds.specs.of_paused.Kept.{Fitting}
+use Rattle.runbounds.specs.of_paused.declared.Phase.{Phase}
+use Rattle.runbounds.specs.of_paused.declared.Phase.TheVariants.{Running, Over}
+use Rattle.runbounds.specs.of_paused.declared.Going.{Going}
+use Rattle.starting.specs.of_returning.Standing.{left_for, task_for, PlacedOn}
 use Rattle.starting.specs.Starts.{Ready, StartMeets}
 use Rattle.starting.specs.Begun.{refused_with}
 use Rattle.starting.proofs.Meeting.{refused_left, refused_kept, refused_sound}
-use Rattle.holding.proofs.Handing.{none_in_hand}
+use Rattle.stepping.proofs.of_holding.Handing.{none_in_hand}
 use Rattle.inhand.specs.State.{state_words, hand_in, run_in, PutMeets}
 use Rattle.onemove.specs.OneMove.{result_at, wanted_at, places_started, running, Lent, Stood, BegunMeets, StartsIn}
 

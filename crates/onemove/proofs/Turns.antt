@@ -4,9 +4,9 @@ use mathlib.Core.Path.{sym, subst}
 use mathlib.Core.List.{List}
 use Prim.Native.Nat.{ℕ, zero, suc}
 use lib.IntN.{ℤ}
-use Rattle.resuming.specs.Handed.{Left}
-use Rattle.resuming.specs.Handed as left
-use Rattle.resuming.proofs.Answers.{first, others}
+use Rattle.runbounds.specs.of_resuming.Handed.{Left}
+use Rattle.runbounds.specs.of_resuming.Handed as left
+use Rattle.runbounds.proofs.of_resuming.Answers.{first, others}
 use Rattle.packing.specs.declared.Told.{Told}
 use Rattle.onemove.specs.OneMove.{Holds, Hands, Lawful, InTurn}
 

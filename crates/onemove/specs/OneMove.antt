@@ -10,20 +10,20 @@ use Rattle.settings.specs.Points.{with_points}
 use Rattle.settings.specs.Wrong.{settings_wrong}
 use Rattle.settings.specs.declared.Settings.{Settings}
 use Rattle.state.specs.Known.{Sound}
-use Rattle.answers.specs.declared.Answer.{Answer}
-use Rattle.interpreter.specs.Answers.{Result, refused, interpretation, places_of}
-use Rattle.resuming.specs.declared.Handed.{Handed}
-use Rattle.resuming.specs.declared.Handed.TheVariants as handed
-use Rattle.resuming.specs.Handed.{Left, left_of, Takes, roomy}
-use Rattle.taking.specs.declared.Hand.{Hand}
-use Rattle.taking.specs.declared.Hand.TheVariants.{Nothing, Block}
-use Rattle.taking.specs.Hands.{in_hand}
-use Rattle.paused.specs.Kept.{Fitting, Kept}
-use Rattle.paused.specs.declared.Phase.{Phase}
-use Rattle.paused.specs.declared.Phase.TheVariants.{Running, Over}
-use Rattle.paused.specs.declared.Going.{Going}
-use Rattle.returning.specs.Standing.{left_for, task_for, PlacedOn}
-use Rattle.holding.specs.Held.{Held}
+use Rattle.packing.specs.of_answers.declared.Answer.{Answer}
+use Rattle.runbounds.specs.of_interpreter.Answers.{Result, refused, interpretation, places_of}
+use Rattle.runbounds.specs.of_resuming.declared.Handed.{Handed}
+use Rattle.runbounds.specs.of_resuming.declared.Handed.TheVariants as handed
+use Rattle.runbounds.specs.of_resuming.Handed.{Left, left_of, Takes, roomy}
+use Rattle.packing.specs.of_taking.declared.Hand.{Hand}
+use Rattle.packing.specs.of_taking.declared.Hand.TheVariants.{Nothing, Block}
+use Rattle.packing.specs.of_taking.Hands.{in_hand}
+use Rattle.runbounds.specs.of_paused.Kept.{Fitting, Kept}
+use Rattle.runbounds.specs.of_paused.declared.Phase.{Phase}
+use Rattle.runbounds.specs.of_paused.declared.Phase.TheVariants.{Running, Over}
+use Rattle.runbounds.specs.of_paused.declared.Going.{Going}
+use Rattle.starting.specs.of_returning.Standing.{left_for, task_for, PlacedOn}
+use Rattle.stepping.specs.of_holding.Held.{Held}
 use Rattle.stepping.specs.declared.Turned.{Turned}
 use Rattle.starting.specs.Starts.{Ready}
 use Rattle.inhand.specs.State.{state_words, hand_in, run_in, Given}

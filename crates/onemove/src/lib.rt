@@ -7,21 +7,26 @@
 ghost use Rattle.std.specs.Prelude.{◌≡◌, true, false, ◌≤◌, length};
 ghost use Rattle.panel.specs.Row.{unfit};
 ghost use Rattle.moves.specs.Form.{record_size};
-ghost use Rattle.taking.specs.declared.Hand.TheVariants.{Nothing, Block};
-ghost use Rattle.paused.specs.declared.Phase.TheVariants.{Running};
-ghost use Rattle.holding.specs.Held.{Held};
+ghost use Rattle.packing.specs.of_taking.declared.Hand.TheVariants.{Nothing, Block};
+ghost use Rattle.runbounds.specs.of_paused.declared.Phase.TheVariants.{Running};
+ghost use Rattle.stepping.specs.of_holding.Held.{Held};
 ghost use Rattle.stepping.specs.Meets.{Stands};
-ghost use Rattle.runwords.specs.Laid.{Small};
+ghost use Rattle.runbounds.specs.of_runwords.Laid.{Small};
 ghost use Rattle.inhand.specs.State.{state_words, hand_in, run_in};
 ghost use Rattle.onemove.specs.OneMove.{CanGoOn, OneGiven, FirstMeets, AskMeets, NextMeets, BegunMeets, places_started, StartsIn};
 
-use answers::Answer;
+use stepping::holding;
+use inhand::handwords;
+pub use runbounds::runwords;
+pub use packing;
+pub use inhand;
+use packing::answers::Answer;
 use moves::Origin;
 use packing::Told;
-use paused::{Going, Phase};
-use stages::Cursor;
+use runbounds::paused::{Going, Phase};
+use packing::stages::Cursor;
 use stepping::Turned;
-use taking::Hand;
+use packing::taking::Hand;
 
 // Lays the first record of a block that was opened, and puts what is left of it into the words.
 fn give_one(state: &mut [u32], c: Cursor, origin: Origin, record: &mut [u8])

@@ -3,7 +3,7 @@
 
 ghost use Rattle.std.specs.Prelude.{◌≡◌, false};
 ghost use Rattle.cycles.specs.Cycle.{wrong, records};
-ghost use Rattle.cycles.specs.Known as cycle;{
+ghost use Rattle.cycles.specs.Known as cycle;
 ghost use Rattle.deeds.specs.Known.{Right, Known};
 ghost use Rattle.writing.specs.Writes.{writes};
 ghost use Rattle.stages.specs.Cursor.{rest_of, Sound};

@@ -3,9 +3,9 @@ use Rattle.std.specs.Prelude.{◌≡◌, ℕ, ◌≤◌, ◌<◌, length, get_or
 use Rattle.moves.specs.Form.{record_limit}
 use Rattle.reading.specs.Reading.{longest_tape}
 use Rattle.ahead.specs.Ahead.{most_calls}
-use Rattle.runners.specs.Runs.{blocks_in_all}
-use Rattle.answers.specs.declared.Answer.{Answer}
-use Rattle.answers.specs.Answers.{place_of, count_of}
+use Rattle.resuming.specs.of_runners.Runs.{blocks_in_all}
+use Rattle.resuming.specs.of_answers.declared.Answer.{Answer}
+use Rattle.resuming.specs.of_answers.Answers.{place_of, count_of}
 use Rattle.resuming.specs.declared.Waiting.{Waiting}
 use Rattle.paused.specs.declared.Phase.{Phase}
 use Rattle.paused.specs.declared.Phase.TheVariants.{Running, Over}

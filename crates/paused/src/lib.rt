@@ -2,10 +2,14 @@
 // (02, request 12: an engine "that keeps the run's state, call places included".)
 #![tactic(auto)]
 
+pub use resuming::wording;
+pub use resuming::taking;
+pub use resuming;
+pub use resuming::answers;
 use ahead::Frame;
-use answers::Answer;
+use resuming::answers::Answer;
 use resuming::Waiting;
-use taking::Run;
+use resuming::taking::Run;
 
 // Whether there is more to run, or the answer that the run has come to.
 #[derive(Clone, Copy)]

@@ -11,6 +11,9 @@ ghost use Rattle.writing.specs.Writes.{writes};
 ghost use Rattle.stages.specs.Cursor.{rest_of, DueSound, Sound};
 ghost use Rattle.putting.specs.Cycles.{has_own_loop, cycle_row};
 
+pub use stages;
+pub use opening;
+pub use handing;
 use block::Block;
 use deeds::Deed;
 use moves::Origin;

@@ -21,21 +21,21 @@ use Rattle.state.specs.declared.State.{State}
 use Rattle.targets.proofs.Ranges.{settled_sound, start_sound}
 use Rattle.deeds.proofs.Made.{starts}
 use Rattle.asking.specs.Judge.{doing}
-use Rattle.writing.specs.Writes.{one_if, speed_of, tool_of, m_of, speed_and_tool, spindle_and_coolant, done, stops, stopping, writes}
-use Rattle.verdicts.specs.Verdicts.{sending_of, deed_in, asks_in, alarm_in}
-use Rattle.verdicts.proofs.Passing.{all_passed, right_in}
-use Rattle.verdicts.proofs.Sent.{centred}
-use Rattle.machine.specs.Blocks.{done_records, done_state}
-use Rattle.machine.proofs.Running.{sound_after}
+use Rattle.demands.specs.of_writing.Writes.{one_if, speed_of, tool_of, m_of, speed_and_tool, spindle_and_coolant, done, stops, stopping, writes}
+use Rattle.demands.specs.of_verdicts.Verdicts.{sending_of, deed_in, asks_in, alarm_in}
+use Rattle.demands.proofs.of_verdicts.Passing.{all_passed, right_in}
+use Rattle.demands.proofs.of_verdicts.Sent.{centred}
+use Rattle.demands.specs.of_machine.Blocks.{done_records, done_state}
+use Rattle.demands.proofs.of_machine.Running.{sound_after}
 use Rattle.ahead.specs.Ahead.{most_calls, onto}
 use Rattle.ahead.specs.declared.ProgramAt.{ProgramAt}
-use Rattle.taking.specs.Steps.{Task, task_of, Step, block_on, run_after}
-use Rattle.taking.specs.declared.Run.{Run}
-use Rattle.taking.proofs.Lines.{worded_on}
-use Rattle.runners.specs.Runs.{records_of, program_run}
-use Rattle.runners.proofs.Going.{listed_whats}
-use Rattle.answers.specs.Answers.{start_of, number_of, count_of}
-use Rattle.interpreter.specs.Answers.{Result, main_at, refused, result_of, interpretation, buffer_of}
+use Rattle.demands.specs.of_taking.Steps.{Task, task_of, Step, block_on, run_after}
+use Rattle.demands.specs.of_taking.declared.Run.{Run}
+use Rattle.demands.proofs.of_taking.Lines.{worded_on}
+use Rattle.demands.specs.of_runners.Runs.{records_of, program_run}
+use Rattle.demands.proofs.of_runners.Going.{listed_whats}
+use Rattle.demands.specs.of_answers.Answers.{start_of, number_of, count_of}
+use Rattle.demands.specs.of_interpreter.Answers.{Result, main_at, refused, result_of, interpretation, buffer_of}
 use Rattle.settings.specs.Points.{with_points}
 use Rattle.demands.specs.Demands.{IsList}
 use Rattle.demands.specs.Steps.{Linked}

@@ -5,9 +5,9 @@ use Rattle.moves.specs.Form.{record_start}
 use Rattle.moves.specs.declared.Listed.{Listed}
 use Rattle.readback.specs.Laws.{WrittenForm, ReadsBack}
 use Rattle.settings.specs.declared.Settings.{Settings}
-use Rattle.runners.specs.Runs.{listed_of}
-use Rattle.answers.specs.declared.Answer.TheVariants.{Complete}
-use Rattle.interpreter.specs.Answers.{interpretation, answer_of, buffer_of}
+use Rattle.demands.specs.of_runners.Runs.{listed_of}
+use Rattle.demands.specs.of_answers.declared.Answer.TheVariants.{Complete}
+use Rattle.demands.specs.of_interpreter.Answers.{interpretation, answer_of, buffer_of}
 
 -- the list at the front of the buffer after a run, of so many records
 abbrev pub list_after : List ℕ → List ℤ → Settings → ℕ → List ℕ → ℕ → List ℕ

@@ -3,7 +3,7 @@
 use mathlib.Core.Path.{◌≡◌, sym, ap, ◌∙◌}
 use mathlib.Core.List.{List}
 use Prim.Native.Nat.{ℕ, zero, suc}
-use Rattle.answers.specs.declared.Answer.{Answer}
+use Rattle.interpreter.specs.of_answers.declared.Answer.{Answer}
 use Rattle.resuming.specs.Handed.{Made, Left, handed_of, handed, Takes}
 use Rattle.resuming.specs.declared.Handed.{Handed}
 use Rattle.resuming.specs.declared.Handed.TheVariants.{Move, Over}

@@ -18,12 +18,12 @@ use Rattle.reading.specs.declared.Read.{Read}
 use Rattle.reading.specs.declared.Read.TheVariants as read
 use Rattle.settings.specs.declared.Settings.{Settings}
 use Rattle.ahead.specs.Ahead.{most_calls}
-use Rattle.taking.specs.Steps.{Task, task_of}
-use Rattle.taking.specs.declared.Run.{Run}
-use Rattle.runners.specs.Runs.{Ran, program_run, listed_of, blocks_in_all, enough}
-use Rattle.answers.specs.declared.Answer.{Answer}
-use Rattle.answers.specs.declared.Answer.TheVariants.{Alarm}
-use Rattle.answers.specs.Answers.{start_of}
+use Rattle.interpreter.specs.of_taking.Steps.{Task, task_of}
+use Rattle.interpreter.specs.of_taking.declared.Run.{Run}
+use Rattle.interpreter.specs.of_runners.Runs.{Ran, program_run, listed_of, blocks_in_all, enough}
+use Rattle.interpreter.specs.of_answers.declared.Answer.{Answer}
+use Rattle.interpreter.specs.of_answers.declared.Answer.TheVariants.{Alarm}
+use Rattle.interpreter.specs.of_answers.Answers.{start_of}
 use Rattle.interpreter.specs.Answers.{Result, refused, result_of, main_at, main_by, main_run, read_then, longest_tape, interpretation_by, interpretation}
 use Rattle.settings.specs.Points.{with_points}
 use Rattle.settings.specs.Wrong.{settings_wrong}

@@ -10,14 +10,14 @@ use Rattle.tape.specs.Lines.{lines}
 use Rattle.finding.specs.Finding.{first_block}
 use Rattle.places.specs.declared.Found.{Found}
 use Rattle.places.specs.declared.Found.TheVariants.{At, Nowhere}
-use Rattle.verdicts.specs.Verdicts.{alarm_in}
-use Rattle.taking.specs.Steps.{Task, block_on, onward_of, alarm_by, alarm_at, run_after, done_at, taken_by, taken_from}
+use Rattle.interpreter.specs.of_verdicts.Verdicts.{alarm_in}
+use Rattle.interpreter.specs.of_taking.Steps.{Task, block_on, onward_of, alarm_by, alarm_at, run_after, done_at, taken_by, taken_from}
 use Rattle.ahead.specs.Ahead.{onto}
 use Rattle.ahead.specs.declared.Frame.{Frame}
 use Rattle.ahead.specs.declared.Onward.{Onward}
 use Rattle.ahead.specs.declared.Onward.TheVariants.{On, Call, Jump, Return, End, Stop}
-use Rattle.taking.specs.declared.Run.{Run}
-use Rattle.taking.proofs.Stepping.{some_left}
+use Rattle.interpreter.specs.of_taking.declared.Run.{Run}
+use Rattle.interpreter.proofs.of_taking.Stepping.{some_left}
 
 abbrev pub Lower : Onward → Run → Run → Type 0
 Lower (Stop alarm place) r s = s.blocks_left ≤ r.blocks_left

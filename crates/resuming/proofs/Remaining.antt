@@ -5,14 +5,14 @@ use mathlib.Core.List.{List, [], ◌∷◌, ◌++◌, append_assoc, append-nil}
 use Prim.Native.Nat.{ℕ, zero, suc, ◌≤◌, ◌<◌}
 use native.Mathlib.Omega.{arith}
 use Rattle.tape.specs.Lines.{line_at}
-use Rattle.taking.specs.Steps.{Task, Step, taken_from}
+use Rattle.interpreter.specs.of_taking.Steps.{Task, Step, taken_from}
 use Rattle.ahead.specs.declared.ProgramAt.{ProgramAt}
 use Rattle.ahead.specs.declared.Onward.{Onward}
 use Rattle.ahead.specs.declared.Onward.TheVariants.{On, Call, Jump, Return, End, Stop}
-use Rattle.taking.specs.declared.Run.{Run}
-use Rattle.runners.specs.declared.Ending.{Ending}
-use Rattle.runners.specs.declared.Ending.TheVariants.{Returned, Ended, Stopped}
-use Rattle.runners.specs.Runs.{Ran, ran, pre, go_back, and_then, go_on, onward, blocks, blocks_in_all, enough, repeated, called, program_run}
+use Rattle.interpreter.specs.of_taking.declared.Run.{Run}
+use Rattle.interpreter.specs.of_runners.declared.Ending.{Ending}
+use Rattle.interpreter.specs.of_runners.declared.Ending.TheVariants.{Returned, Ended, Stopped}
+use Rattle.interpreter.specs.of_runners.Runs.{Ran, ran, pre, go_back, and_then, go_on, onward, blocks, blocks_in_all, enough, repeated, called, program_run}
 use Rattle.resuming.specs.declared.Waiting.{Waiting}
 use Rattle.resuming.specs.Remains.{waiting, frame_at, back, remain, deeper, gone}
 use Rattle.resuming.proofs.Lowering.{Lower, lower}

@@ -4,13 +4,13 @@ use mathlib.Core.Path.{◌≡◌, refl, sym, ap, ◌∙◌}
 use mathlib.Core.List.{List, [], ◌∷◌}
 use Prim.Native.Nat.{ℕ, zero, suc, ◌≤◌, ◌<◌}
 use native.Mathlib.Omega.{arith}
-use Rattle.taking.specs.Steps.{Task, Step, listed_by, taken_from}
+use Rattle.interpreter.specs.of_taking.Steps.{Task, Step, listed_by, taken_from}
 use Rattle.ahead.specs.declared.ProgramAt.{ProgramAt}
 use Rattle.ahead.specs.declared.Onward.{Onward}
 use Rattle.ahead.specs.declared.Onward.TheVariants.{On, Call, Jump, Return, End, Stop}
-use Rattle.taking.specs.declared.Run.{Run}
-use Rattle.runners.specs.Runs.{Ran, pre, listed_of, blocks_in_all}
-use Rattle.answers.specs.Answers.{answer_by}
+use Rattle.interpreter.specs.of_taking.declared.Run.{Run}
+use Rattle.interpreter.specs.of_runners.Runs.{Ran, pre, listed_of, blocks_in_all}
+use Rattle.interpreter.specs.of_answers.Answers.{answer_by}
 use Rattle.interpreter.specs.Answers.{result_of}
 use Rattle.resuming.specs.declared.Waiting.{Waiting}
 use Rattle.resuming.specs.Remains.{waiting, frame_at, back, deeper, gone}

@@ -10,15 +10,15 @@ use Rattle.reading.specs.declared.Read.{Read}
 use Rattle.reading.specs.declared.Read.TheVariants as read
 use Rattle.settings.specs.declared.Settings.{Settings}
 use Rattle.ahead.specs.Ahead.{most_calls}
-use Rattle.taking.specs.Steps.{Task, task_of, Step, listed_by, taken_from}
+use Rattle.interpreter.specs.of_taking.Steps.{Task, task_of, Step, listed_by, taken_from}
 use Rattle.ahead.specs.declared.ProgramAt.{ProgramAt}
 use Rattle.ahead.specs.declared.Onward.{Onward}
 use Rattle.ahead.specs.declared.Onward.TheVariants.{On, Call, Jump, Return, End, Stop}
-use Rattle.taking.specs.declared.Run.{Run}
-use Rattle.runners.specs.Runs.{enough}
-use Rattle.answers.specs.declared.Answer.{Answer}
-use Rattle.answers.specs.declared.Answer.TheVariants.{Complete, Alarm}
-use Rattle.answers.specs.Answers.{start_of}
+use Rattle.interpreter.specs.of_taking.declared.Run.{Run}
+use Rattle.interpreter.specs.of_runners.Runs.{enough}
+use Rattle.interpreter.specs.of_answers.declared.Answer.{Answer}
+use Rattle.interpreter.specs.of_answers.declared.Answer.TheVariants.{Complete, Alarm}
+use Rattle.interpreter.specs.of_answers.Answers.{start_of}
 use Rattle.interpreter.specs.Answers.{result_of, main_at, longest_tape}
 use Rattle.settings.specs.Points.{with_points}
 use Rattle.settings.specs.Wrong.{settings_wrong}

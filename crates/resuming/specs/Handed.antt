@@ -1,8 +1,8 @@
 -- ONE MOVE AT A TIME: what is handed out, and what is owed of it. 02, request 12: "its answers in turn are exactly the list engine's records and then its end or alarm"; "After an alarm or the end it repeats that answer".
 use Rattle.std.specs.Prelude.{◌≡◌, List, [], ◌∷◌, ℕ, zero, suc}
 use Rattle.moves.specs.declared.Listed.{Listed}
-use Rattle.answers.specs.declared.Answer.{Answer}
-use Rattle.runners.specs.Runs.{listed_of}
+use Rattle.interpreter.specs.of_answers.declared.Answer.{Answer}
+use Rattle.interpreter.specs.of_runners.Runs.{listed_of}
 use Rattle.interpreter.specs.Answers.{Result}
 use Rattle.resuming.specs.declared.Handed.{Handed}
 use Rattle.resuming.specs.declared.Handed.TheVariants.{Move, Over}

@@ -5,11 +5,11 @@ use Rattle.ahead.specs.declared.ProgramAt.{ProgramAt}
 use Rattle.ahead.specs.declared.Frame.{Frame}
 use Rattle.ahead.specs.declared.Onward.{Onward}
 use Rattle.ahead.specs.declared.Onward.TheVariants.{On, Call, Jump, Return, End, Stop}
-use Rattle.taking.specs.Steps.{Task, Step}
-use Rattle.taking.specs.declared.Run.{Run}
-use Rattle.runners.specs.declared.Ending.TheVariants.{Returned, Ended, Stopped}
+use Rattle.interpreter.specs.of_taking.Steps.{Task, Step}
+use Rattle.interpreter.specs.of_taking.declared.Run.{Run}
+use Rattle.interpreter.specs.of_runners.declared.Ending.TheVariants.{Returned, Ended, Stopped}
 use Rattle.resuming.specs.declared.Waiting.{Waiting}
-use Rattle.runners.specs.Runs.{Ran, ran, pre, and_then, blocks, enough, repeated, called, program_run}
+use Rattle.interpreter.specs.of_runners.Runs.{Ran, ran, pre, and_then, blocks, enough, repeated, called, program_run}
 
 -- A PROGRAM THAT WAITS for a call to return: the place to go on in it, and how often the called program is still to run
 abbrev pub waiting : ProgramAt → ℕ → ℕ → Waiting

@@ -15,10 +15,10 @@ use Rattle.ahead.specs.declared.ProgramAt.{ProgramAt}
 use Rattle.ahead.specs.declared.Onward.{Onward}
 use Rattle.ahead.specs.declared.Onward.TheVariants.{On, Call, Jump, Return, End, Stop}
 use Rattle.ahead.proofs.Places.{found_within}
-use Rattle.taking.specs.Hands.{Leads}
-use Rattle.taking.specs.declared.Run.{Run}
-use Rattle.resuming.specs.declared.Waiting.{Waiting}
-use Rattle.resuming.specs.Remains.{waiting}
+use Rattle.paused.specs.of_taking.Hands.{Leads}
+use Rattle.paused.specs.of_taking.declared.Run.{Run}
+use Rattle.paused.specs.of_resuming.declared.Waiting.{Waiting}
+use Rattle.paused.specs.of_resuming.Remains.{waiting}
 use Rattle.paused.specs.Kept.{nobody}
 use Rattle.paused.specs.declared.Phase.{Phase}
 use Rattle.paused.specs.declared.Phase.TheVariants.{Running}

@@ -15,14 +15,14 @@ use Rattle.ahead.specs.Ahead.{most_calls}
 use Rattle.ahead.specs.declared.ProgramAt.{ProgramAt}
 use Rattle.ahead.specs.declared.Onward.{Onward}
 use Rattle.ahead.specs.declared.Onward.TheVariants.{On, Call, Jump, Return, End, Stop}
-use Rattle.taking.specs.Steps.{Task, Step, listed_by}
-use Rattle.taking.specs.declared.Run.{Run}
-use Rattle.answers.specs.declared.Answer.{Answer}
-use Rattle.answers.specs.declared.Answer.TheVariants.{Complete, Alarm}
-use Rattle.resuming.specs.declared.Waiting.{Waiting}
-use Rattle.resuming.specs.Remains.{waiting}
-use Rattle.resuming.specs.Handed.{Made}
-use Rattle.resuming.specs.Engines.{running, ended, times_left, come_back, call_from, turn_by, ahead, joined, remaining}
+use Rattle.paused.specs.of_taking.Steps.{Task, Step, listed_by}
+use Rattle.paused.specs.of_taking.declared.Run.{Run}
+use Rattle.paused.specs.of_answers.declared.Answer.{Answer}
+use Rattle.paused.specs.of_answers.declared.Answer.TheVariants.{Complete, Alarm}
+use Rattle.paused.specs.of_resuming.declared.Waiting.{Waiting}
+use Rattle.paused.specs.of_resuming.Remains.{waiting}
+use Rattle.paused.specs.of_resuming.Handed.{Made}
+use Rattle.paused.specs.of_resuming.Engines.{running, ended, times_left, come_back, call_from, turn_by, ahead, joined, remaining}
 use Rattle.paused.specs.Kept.{nobody}
 use Rattle.paused.specs.declared.Phase.TheVariants.{Running}
 use Rattle.paused.specs.declared.Going.{Going}

@@ -16,11 +16,11 @@ use Rattle.ahead.specs.declared.ProgramAt.{ProgramAt}
 use Rattle.ahead.specs.declared.Frame.{Frame}
 use Rattle.ahead.specs.declared.Onward.{Onward}
 use Rattle.ahead.specs.declared.Onward.TheVariants.{On, Call, Jump, Return, End, Stop}
-use Rattle.taking.specs.declared.Run.{Run}
-use Rattle.runners.specs.Runs.{blocks_in_all}
-use Rattle.answers.specs.declared.Answer.{Answer}
-use Rattle.resuming.specs.declared.Waiting.{Waiting}
-use Rattle.resuming.specs.Remains.{waiting}
+use Rattle.paused.specs.of_taking.declared.Run.{Run}
+use Rattle.paused.specs.of_runners.Runs.{blocks_in_all}
+use Rattle.paused.specs.of_answers.declared.Answer.{Answer}
+use Rattle.paused.specs.of_resuming.declared.Waiting.{Waiting}
+use Rattle.paused.specs.of_resuming.Remains.{waiting}
 use Rattle.paused.specs.Kept.{nobody, Waits, Fitting, Kept}
 use Rattle.paused.specs.declared.Going.{Going}
 use Rattle.returning.specs.Moving.{within_of, moved_to, over_with, stopped_with, last_of, top_of, popped_to, repeated_to, came_back, pushed_to, called_to, program_within, gone_on}

@@ -7,8 +7,8 @@ use borrow.Author.Tests.{eq-eqb, ne_eqb}
 use Rattle.alarms.specs.Numbers.{too_deep, wrong_end}
 use Rattle.ahead.specs.Ahead.{most_calls}
 use Rattle.ahead.specs.declared.ProgramAt.{ProgramAt}
-use Rattle.taking.specs.declared.Run.{Run}
-use Rattle.resuming.specs.declared.Waiting.{Waiting}
+use Rattle.paused.specs.of_taking.declared.Run.{Run}
+use Rattle.paused.specs.of_resuming.declared.Waiting.{Waiting}
 use Rattle.paused.specs.declared.Going.{Going}
 use Rattle.returning.specs.Moving.{stopped_with, top_of, popped_to, repeated_to, came_back, pushed_to, called_to}
 

@@ -8,11 +8,11 @@ use Rattle.ahead.specs.declared.ProgramAt.{ProgramAt}
 use Rattle.ahead.specs.declared.Frame.{Frame}
 use Rattle.ahead.specs.declared.Onward.{Onward}
 use Rattle.ahead.specs.declared.Onward.TheVariants.{On, Call, Jump, Return, End, Stop}
-use Rattle.taking.specs.declared.Run.{Run}
-use Rattle.answers.specs.declared.Answer.{Answer}
-use Rattle.answers.specs.declared.Answer.TheVariants.{Complete, Alarm}
-use Rattle.resuming.specs.declared.Waiting.{Waiting}
-use Rattle.resuming.specs.Remains.{waiting, frame_at}
+use Rattle.paused.specs.of_taking.declared.Run.{Run}
+use Rattle.paused.specs.of_answers.declared.Answer.{Answer}
+use Rattle.paused.specs.of_answers.declared.Answer.TheVariants.{Complete, Alarm}
+use Rattle.paused.specs.of_resuming.declared.Waiting.{Waiting}
+use Rattle.paused.specs.of_resuming.Remains.{waiting, frame_at}
 use Rattle.paused.specs.Kept.{nobody}
 use Rattle.paused.specs.declared.Phase.TheVariants.{Over}
 use Rattle.paused.specs.declared.Going.{Going}

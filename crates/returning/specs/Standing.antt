@@ -4,10 +4,10 @@ use Rattle.moves.specs.Form.{record_limit}
 use Rattle.settings.specs.declared.Settings.{Settings}
 use Rattle.finding.specs.Finds.{Finds}
 use Rattle.ahead.specs.Ahead.{most_calls, FoundAt}
-use Rattle.taking.specs.Steps.{Task, task_in}
-use Rattle.resuming.specs.declared.Waiting.{Waiting}
-use Rattle.resuming.specs.Handed.{Made, Left}
-use Rattle.resuming.specs.Engines as engine
+use Rattle.paused.specs.of_taking.Steps.{Task, task_in}
+use Rattle.paused.specs.of_resuming.declared.Waiting.{Waiting}
+use Rattle.paused.specs.of_resuming.Handed.{Made, Left}
+use Rattle.paused.specs.of_resuming.Engines as engine
 use Rattle.paused.specs.Kept.{nobody}
 use Rattle.paused.specs.declared.Phase.{Phase}
 use Rattle.paused.specs.declared.Phase.TheVariants.{Running, Over}

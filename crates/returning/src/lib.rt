@@ -6,11 +6,16 @@ ghost use Rattle.std.specs.Prelude.{◌≡◌, ◌≤◌, ◌<◌, length};
 ghost use Rattle.ahead.specs.Ahead.{most_calls};
 ghost use Rattle.returning.specs.Moving.{within_of, moved_to, over_with, stopped_with, top_of, popped_to, entry_of, repeated_to, came_back, pushed_to, called_to};
 
+pub use paused::wording;
+pub use paused::taking;
+pub use paused::resuming;
+pub use paused;
+pub use paused::answers;
 use ahead::{Frame, ProgramAt};
-use answers::Answer;
+use paused::answers::Answer;
 use paused::{Going, Phase};
-use resuming::Waiting;
-use taking::Run;
+use paused::resuming::Waiting;
+use paused::taking::Run;
 
 // 16 bits have a place on the tape and a count of records.
 const SIXTEEN_BITS: usize = 65_536;

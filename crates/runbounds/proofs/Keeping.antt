@@ -13,13 +13,13 @@ use Rattle.telling.proofs.Tells.{Tells, never, tells_no, tells_at_most}
 use Rattle.moves.specs.Form.{record_limit}
 use Rattle.reading.specs.Reading.{longest_tape}
 use Rattle.ahead.specs.Ahead.{most_calls}
-use Rattle.runners.specs.Runs.{blocks_in_all}
-use Rattle.answers.specs.declared.Answer.TheVariants.{Complete, Alarm}
-use Rattle.resuming.specs.declared.Waiting.{Waiting}
-use Rattle.paused.specs.declared.Phase.{Phase}
-use Rattle.paused.specs.declared.Phase.TheVariants.{Running, Over}
-use Rattle.paused.specs.declared.Going.{Going}
-use Rattle.paused.specs.Kept.{nobody, Waits, Answers, Kept}
+use Rattle.runwords.specs.of_runners.Runs.{blocks_in_all}
+use Rattle.runwords.specs.of_answers.declared.Answer.TheVariants.{Complete, Alarm}
+use Rattle.runwords.specs.of_resuming.declared.Waiting.{Waiting}
+use Rattle.runwords.specs.of_paused.declared.Phase.{Phase}
+use Rattle.runwords.specs.of_paused.declared.Phase.TheVariants.{Running, Over}
+use Rattle.runwords.specs.of_paused.declared.Going.{Going}
+use Rattle.runwords.specs.of_paused.Kept.{nobody, Waits, Answers, Kept}
 use Rattle.runwords.specs.Laid.{SmallPhase, Small}
 
 both : {a b : Bool} {P Q : Type 0} → Tells a P → Tells b Q → Tells (a && b) (P × Q)

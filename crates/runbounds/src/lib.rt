@@ -3,11 +3,14 @@
 
 ghost use Rattle.std.specs.Prelude.{◌≡◌, true, ℕ, ◌<◌, length, get_or};
 ghost use Rattle.ahead.specs.Ahead.{most_calls};
-ghost use Rattle.paused.specs.Kept.{nobody, Waits, Answers, Kept};
+ghost use Rattle.runwords.specs.of_paused.Kept.{nobody, Waits, Answers, Kept};
 
-use answers::Answer;
-use paused::{Going, Phase};
-use resuming::Waiting;
+use runwords::answers;
+pub use runwords;
+pub use runwords::paused;
+use runwords::answers::Answer;
+use runwords::paused::{Going, Phase};
+use runwords::resuming::Waiting;
 
 // Whether each program that may wait has its line and the place to go on no further than the end of the tape.
 fn wait_within(waiting: [Waiting; runwords::MOST_WAITING], end: usize) -> bool

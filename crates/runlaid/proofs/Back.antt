@@ -11,11 +11,11 @@ use Rattle.codes.specs.declared.Motion.TheVariants as motion
 use Rattle.acts.specs.declared.Kept.{Kept}
 use Rattle.acts.specs.declared.Kept.TheVariants.{Nothing, Of}
 use Rattle.ahead.specs.Ahead.{most_calls}
-use Rattle.answers.specs.declared.Answer.TheVariants.{Complete, Alarm}
-use Rattle.resuming.specs.declared.Waiting.{Waiting}
-use Rattle.paused.specs.declared.Phase.{Phase}
-use Rattle.paused.specs.declared.Phase.TheVariants.{Running, Over}
-use Rattle.paused.specs.declared.Going.{Going}
+use Rattle.runwords.specs.of_answers.declared.Answer.TheVariants.{Complete, Alarm}
+use Rattle.runwords.specs.of_resuming.declared.Waiting.{Waiting}
+use Rattle.runwords.specs.of_paused.declared.Phase.{Phase}
+use Rattle.runwords.specs.of_paused.declared.Phase.TheVariants.{Running, Over}
+use Rattle.runwords.specs.of_paused.declared.Going.{Going}
 use Rattle.runwords.specs.Taken.{going_words, complete, stopped, phase_by, phase_of, end_from, frame_from, motion_of, is_yes, run_from, waiting_from, waiting_in, going_of}
 use Rattle.runwords.specs.Laid.{phase_words, frame_words, kept_tag, yes_word, run_words, ReadBack, all_words, Put}
 use Rattle.runlaid.proofs.Putting.{joined}

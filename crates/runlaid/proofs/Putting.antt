@@ -10,9 +10,9 @@ use lib.Seq.{sets-eq, take_all, length-take-le}
 use Rattle.octets.specs.Bytes.{laid}
 use Rattle.octets.proofs.Laying.{laid_nil, laid_on, four_laid}
 use Rattle.ahead.specs.Ahead.{most_calls}
-use Rattle.taking.specs.declared.Run.{Run}
-use Rattle.resuming.specs.declared.Waiting.{Waiting}
-use Rattle.paused.specs.Kept.{nobody}
+use Rattle.runwords.specs.of_taking.declared.Run.{Run}
+use Rattle.runwords.specs.of_resuming.declared.Waiting.{Waiting}
+use Rattle.runwords.specs.of_paused.Kept.{nobody}
 use Rattle.runwords.specs.Taken.{going_words, end_from, frame_from, run_from, waiting_from, waiting_words}
 use Rattle.runwords.specs.Laid.{kept_tag, yes_word, signed_word, run_words, words_of, all_words, Put}
 

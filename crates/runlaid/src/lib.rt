@@ -4,17 +4,19 @@
 ghost use Rattle.std.specs.Prelude.{◌≡◌, [], ◌∷◌, ℕ, ◌+◌, ◌<◌, ◌≤◌, length, get_or};
 ghost use Rattle.octets.specs.Bytes.{signed_of};
 ghost use Rattle.ahead.specs.Ahead.{most_calls};
-ghost use Rattle.paused.specs.Kept.{nobody};
+ghost use Rattle.runwords.specs.of_paused.Kept.{nobody};
 ghost use Rattle.runwords.specs.Taken.{going_words, phase_of, end_from, run_from, tag_of, waiting_from, going_of};
 ghost use Rattle.runwords.specs.Laid.{phase_words, frame_words, kept_tag, yes_word, signed_word, run_words, ReadBack, words_of, all_words, Put, word_range, SmallPhase, SmallWaiting, Small};
 
+pub use runwords;
+pub use runwords::paused;
 use acts::Kept;
 use ahead::Frame;
-use answers::Answer;
+use runwords::answers::Answer;
 use codes::Motion;
-use paused::{Going, Phase};
-use resuming::Waiting;
-use taking::Run;
+use runwords::paused::{Going, Phase};
+use runwords::resuming::Waiting;
+use runwords::taking::Run;
 
 fn word_of(place: usize) -> u32
     requires { place < word_range }

@@ -22,14 +22,14 @@ use Rattle.tape.specs.Lines.{line_at}
 use Rattle.settings.specs.declared.Settings.{Settings}
 use Rattle.moves.proofs.Room.{room_fits}
 use Rattle.ahead.specs.Ahead.{onto, FoundAt}
-use Rattle.taking.specs.Steps.{Task, task_of, Step, listed_by, Taken, taken_from}
+use Rattle.steps.specs.of_taking.Steps.{Task, task_of, Step, listed_by, Taken, taken_from}
 use Rattle.steps.specs.Meets.{Ready, Fit, Needs, Goes, Wrote, StepMeets}
 use Rattle.ahead.specs.declared.ProgramAt.{ProgramAt}
 use Rattle.ahead.specs.declared.Frame.{Frame}
 use Rattle.ahead.specs.declared.Onward.{Onward}
 use Rattle.ahead.specs.declared.Onward.TheVariants.{On, Call, Jump, Return, End, Stop}
-use Rattle.taking.specs.declared.StepDone.{StepDone}
-use Rattle.taking.specs.declared.Run.{Run}
+use Rattle.steps.specs.of_taking.declared.StepDone.{StepDone}
+use Rattle.steps.specs.of_taking.declared.Run.{Run}
 use Rattle.runners.specs.declared.Ending.{Ending}
 use Rattle.runners.specs.declared.Ending.TheVariants.{Returned, Ended, Stopped}
 use Rattle.runners.specs.declared.Outcome.{Outcome}

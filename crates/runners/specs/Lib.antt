@@ -1,3 +1,11 @@
 -- The definitions that the contracts of this crate cite, and those of the crates built on it.
 pub mod Runs
 pub mod Meets
+
+-- ---- passed on to the crates above, which do not list the crate themselves
+pub use Rattle.steps.specs.of_machine as of_machine
+pub use Rattle.steps.specs.of_stages as of_stages
+pub use Rattle.steps.specs as of_steps
+pub use Rattle.steps.specs.of_taking as of_taking
+pub use Rattle.steps.specs.of_verdicts as of_verdicts
+pub use Rattle.steps.specs.of_writing as of_writing

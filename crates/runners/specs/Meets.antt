@@ -2,9 +2,9 @@
 use Rattle.std.specs.Prelude.{◌≡◌, List, ℕ, ◌≤◌}
 use Rattle.ahead.specs.Ahead.{FoundAt}
 use Rattle.ahead.specs.declared.ProgramAt.{ProgramAt}
-use Rattle.taking.specs.Steps.{Task, Step}
+use Rattle.steps.specs.of_taking.Steps.{Task, Step}
 use Rattle.steps.specs.Meets.{Ready, Fit, Wrote}
-use Rattle.taking.specs.declared.Run.{Run}
+use Rattle.steps.specs.of_taking.declared.Run.{Run}
 use Rattle.runners.specs.declared.Outcome.{Outcome}
 use Rattle.runners.specs.Runs.{blocks_in_all, Ran, listed_of, called, program_run}
 

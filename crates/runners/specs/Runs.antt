@@ -6,12 +6,12 @@ use Rattle.moves.specs.declared.Record.{Record}
 use Rattle.moves.specs.declared.Listed.{Listed}
 use Rattle.tape.specs.Lines.{line_at}
 use Rattle.ahead.specs.Ahead.{onto}
-use Rattle.taking.specs.Steps.{Task, Step, listed_by, Taken, taken_from}
+use Rattle.steps.specs.of_taking.Steps.{Task, Step, listed_by, Taken, taken_from}
 use Rattle.ahead.specs.declared.ProgramAt.{ProgramAt}
 use Rattle.ahead.specs.declared.Frame.{Frame}
 use Rattle.ahead.specs.declared.Onward.{Onward}
 use Rattle.ahead.specs.declared.Onward.TheVariants.{On, Call, Jump, Return, End, Stop}
-use Rattle.taking.specs.declared.Run.{Run}
+use Rattle.steps.specs.of_taking.declared.Run.{Run}
 use Rattle.runners.specs.declared.Ending.{Ending}
 use Rattle.runners.specs.declared.Ending.TheVariants.{Returned, Ended, Stopped}
 use Rattle.runners.specs.declared.Outcome.{Outcome}

@@ -3,12 +3,15 @@
 #![tactic(auto)]
 
 ghost use Rattle.std.specs.Prelude.{length};
-ghost use Rattle.taking.specs.Steps.{task_of};
+ghost use Rattle.steps.specs.of_taking.Steps.{task_of};
 ghost use Rattle.runners.specs.Meets.{Begins, ProgramMeets, CallMeets};
 
+pub use steps::wording;
+pub use steps::taking;
+pub use steps::stages;
 use ahead::{Frame, Onward, ProgramAt};
 use settings::Settings;
-use taking::Run;
+use steps::taking::Run;
 
 // How a program's run came to its end. An alarm has its number and its place.
 #[derive(Clone, Copy)]

@@ -6,7 +6,7 @@ use Prim.Native.Nat.{ℕ, ◌%◌, ◌<◌}
 use native.Mathlib.Omega.{arith}
 use borrow.Author.Tests.{ne_eqb}
 use Rattle.acts.specs.declared.Kept.TheVariants.{Nothing}
-use Rattle.answers.specs.declared.Answer.TheVariants.{Complete, Alarm}
+use Rattle.paused.specs.of_answers.declared.Answer.TheVariants.{Complete, Alarm}
 use Rattle.paused.specs.declared.Phase.{Phase}
 use Rattle.paused.specs.declared.Phase.TheVariants.{Running, Over}
 use Rattle.runwords.specs.Taken.{complete, stopped, phase_by, phase_of, motion_of}

@@ -5,9 +5,9 @@ use Rattle.acts.specs.declared.Kept.{Kept}
 use Rattle.acts.specs.declared.Kept.TheVariants.{Nothing, Of}
 use Rattle.ahead.specs.Ahead.{most_calls}
 use Rattle.ahead.specs.declared.Frame.{Frame}
-use Rattle.taking.specs.declared.Run.{Run}
-use Rattle.answers.specs.declared.Answer.TheVariants.{Complete, Alarm}
-use Rattle.resuming.specs.declared.Waiting.{Waiting}
+use Rattle.paused.specs.of_taking.declared.Run.{Run}
+use Rattle.paused.specs.of_answers.declared.Answer.TheVariants.{Complete, Alarm}
+use Rattle.paused.specs.of_resuming.declared.Waiting.{Waiting}
 use Rattle.paused.specs.declared.Phase.{Phase}
 use Rattle.paused.specs.declared.Phase.TheVariants.{Running, Over}
 use Rattle.paused.specs.declared.Going.{Going}

@@ -14,18 +14,18 @@ use Rattle.ahead.specs.declared.ProgramAt.{ProgramAt}
 use Rattle.ahead.specs.declared.Frame.{Frame}
 use Rattle.ahead.specs.declared.Onward.{Onward}
 use Rattle.ahead.specs.declared.Onward.TheVariants.{On, Jump}
-use Rattle.taking.specs.Steps.{Task, Step, listed_by, taken_from}
-use Rattle.taking.specs.Hands.{in_hand, Able, Falls, Leads, Lawful, OpenMeets}
-use Rattle.taking.specs.declared.Run.{Run}
-use Rattle.taking.specs.declared.StepDone.{StepDone}
-use Rattle.taking.specs.declared.Hand.TheVariants.{Nothing}
-use Rattle.taking.specs.declared.Opened.{Opened}
-use Rattle.runners.specs.Runs.{blocks_in_all}
-use Rattle.resuming.specs.declared.Waiting.{Waiting}
-use Rattle.resuming.specs.Remains.{frame_at}
-use Rattle.resuming.specs.Handed.{Made}
-use Rattle.resuming.specs.Engines.{running, turn_by, turn, remaining}
-use Rattle.resuming.proofs.Turns.{turn_same}
+use Rattle.returning.specs.of_taking.Steps.{Task, Step, listed_by, taken_from}
+use Rattle.returning.specs.of_taking.Hands.{in_hand, Able, Falls, Leads, Lawful, OpenMeets}
+use Rattle.returning.specs.of_taking.declared.Run.{Run}
+use Rattle.returning.specs.of_taking.declared.StepDone.{StepDone}
+use Rattle.returning.specs.of_taking.declared.Hand.TheVariants.{Nothing}
+use Rattle.returning.specs.of_taking.declared.Opened.{Opened}
+use Rattle.returning.specs.of_runners.Runs.{blocks_in_all}
+use Rattle.returning.specs.of_resuming.declared.Waiting.{Waiting}
+use Rattle.returning.specs.of_resuming.Remains.{frame_at}
+use Rattle.returning.specs.of_resuming.Handed.{Made}
+use Rattle.returning.specs.of_resuming.Engines.{running, turn_by, turn, remaining}
+use Rattle.returning.proofs.of_resuming.Turns.{turn_same}
 use Rattle.returning.specs.Standing.{task_for}
 use Rattle.returning.specs.Moving.{within_of}
 use Rattle.returning.proofs.Going.{within_is}

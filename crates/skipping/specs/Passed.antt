@@ -5,11 +5,11 @@ use Rattle.settings.specs.declared.Settings.{Settings}
 use Rattle.finding.specs.Finds.{Finds}
 use Rattle.ahead.specs.Ahead.{FoundAt}
 use Rattle.ahead.specs.declared.Frame.{Frame}
-use Rattle.taking.specs.declared.Run.{Run}
-use Rattle.taking.specs.Hands.{Able, OpenMeets}
-use Rattle.runners.specs.Runs.{blocks_in_all}
-use Rattle.resuming.specs.declared.Waiting.{Waiting}
-use Rattle.resuming.specs.Engines.{running, remaining}
+use Rattle.returning.specs.of_taking.declared.Run.{Run}
+use Rattle.returning.specs.of_taking.Hands.{Able, OpenMeets}
+use Rattle.returning.specs.of_runners.Runs.{blocks_in_all}
+use Rattle.returning.specs.of_resuming.declared.Waiting.{Waiting}
+use Rattle.returning.specs.of_resuming.Engines.{running, remaining}
 use Rattle.returning.specs.Standing.{task_for}
 use Rattle.skipping.specs.declared.Passed.{Passed}
 

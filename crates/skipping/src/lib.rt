@@ -2,13 +2,18 @@
 #![tactic(auto)]
 
 ghost use Rattle.moves.specs.Form.{record_limit};
-ghost use Rattle.taking.specs.Hands.{Able};
+ghost use Rattle.returning.specs.of_taking.Hands.{Able};
 ghost use Rattle.skipping.specs.Passed.{PassMeets};
 
+use returning::wording;
+use returning::taking;
+pub use returning;
+pub use returning::paused;
+pub use returning::answers;
 use ahead::{Frame, Onward};
 use settings::Settings;
-use taking::quiet::Met;
-use taking::{Hand, Opened, Run};
+use returning::taking::quiet::Met;
+use returning::taking::{Hand, Opened, Run};
 
 // A step, and where it was taken.
 #[derive(Clone, Copy)]

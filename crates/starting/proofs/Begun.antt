@@ -13,13 +13,13 @@ use Rattle.state.specs.Modal.{at_start}
 use Rattle.state.specs.declared.State.{State}
 use Rattle.ahead.specs.Ahead.{most_calls}
 use Rattle.ahead.specs.declared.Frame.{Frame}
-use Rattle.taking.specs.declared.Run.{Run}
-use Rattle.answers.specs.Answers.{start_of}
-use Rattle.answers.specs.declared.Answer.TheVariants.{Alarm}
-use Rattle.interpreter.specs.Answers.{main_at}
-use Rattle.resuming.specs.Remains.{frame_at}
-use Rattle.paused.specs.declared.Phase.TheVariants.{Running, Over}
-use Rattle.paused.specs.declared.Going.{Going}
+use Rattle.returning.specs.of_taking.declared.Run.{Run}
+use Rattle.returning.specs.of_answers.Answers.{start_of}
+use Rattle.returning.specs.of_answers.declared.Answer.TheVariants.{Alarm}
+use Rattle.returning.specs.of_interpreter.Answers.{main_at}
+use Rattle.returning.specs.of_resuming.Remains.{frame_at}
+use Rattle.returning.specs.of_paused.declared.Phase.TheVariants.{Running, Over}
+use Rattle.returning.specs.of_paused.declared.Going.{Going}
 use Rattle.returning.specs.Moving.{within_of, entry_of}
 use Rattle.starting.specs.Begun.{standing_at, refused_with, begun_at}
 

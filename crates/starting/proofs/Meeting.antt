@@ -32,21 +32,21 @@ use Rattle.targets.proofs.Ranges.{start_sound}
 use Rattle.ahead.specs.Ahead.{most_calls}
 use Rattle.ahead.specs.declared.Frame.{Frame}
 use Rattle.ahead.proofs.Places.{found_within}
-use Rattle.taking.specs.Steps.{Task, task_in}
-use Rattle.taking.specs.declared.Run.{Run}
-use Rattle.runners.specs.Runs.{Ran, blocks_in_all, listed_of}
-use Rattle.answers.specs.Answers.{start_of}
-use Rattle.interpreter.specs.Answers.{Result, refused, result_of, main_at, main_by, main_run, read_then, interpretation_by, interpretation, row_of, places_of}
-use Rattle.interpreter.specs.Known.{ReadIn}
-use Rattle.interpreter.proofs.Whole.{read_known}
-use Rattle.resuming.specs.Engines.{ahead, joined, remaining}
-use Rattle.resuming.specs.Handed.{left_of, roomy}
-use Rattle.resuming.proofs.Remaining.{begins}
+use Rattle.returning.specs.of_taking.Steps.{Task, task_in}
+use Rattle.returning.specs.of_taking.declared.Run.{Run}
+use Rattle.returning.specs.of_runners.Runs.{Ran, blocks_in_all, listed_of}
+use Rattle.returning.specs.of_answers.Answers.{start_of}
+use Rattle.returning.specs.of_interpreter.Answers.{Result, refused, result_of, main_at, main_by, main_run, read_then, interpretation_by, interpretation, row_of, places_of}
+use Rattle.returning.specs.of_interpreter.Known.{ReadIn}
+use Rattle.returning.proofs.of_interpreter.Whole.{read_known}
+use Rattle.returning.specs.of_resuming.Engines.{ahead, joined, remaining}
+use Rattle.returning.specs.of_resuming.Handed.{left_of, roomy}
+use Rattle.returning.proofs.of_resuming.Remaining.{begins}
 use Rattle.state.specs.Known.{Sound}
-use Rattle.paused.specs.Kept.{nobody, Waits, Answers, Kept}
-use Rattle.paused.specs.declared.Phase.{Phase}
-use Rattle.paused.specs.declared.Phase.TheVariants.{Running, Over}
-use Rattle.paused.specs.declared.Going.{Going}
+use Rattle.returning.specs.of_paused.Kept.{nobody, Waits, Answers, Kept}
+use Rattle.returning.specs.of_paused.declared.Phase.{Phase}
+use Rattle.returning.specs.of_paused.declared.Phase.TheVariants.{Running, Over}
+use Rattle.returning.specs.of_paused.declared.Going.{Going}
 use Rattle.returning.specs.Standing.{stack_of, AllFound, left_for, task_for}
 use Rattle.returning.specs.Moving.{entry_of}
 use Rattle.returning.proofs.Going.{within_is}

@@ -7,15 +7,15 @@ use Rattle.places.specs.declared.Found.TheVariants.{At, Nowhere}
 use Rattle.state.specs.Modal.{at_start}
 use Rattle.ahead.specs.Ahead.{most_calls}
 use Rattle.ahead.specs.declared.Frame.{Frame}
-use Rattle.taking.specs.declared.Run.{Run}
-use Rattle.answers.specs.Answers.{start_of}
-use Rattle.answers.specs.declared.Answer.TheVariants.{Alarm}
-use Rattle.interpreter.specs.Answers.{main_at}
-use Rattle.resuming.specs.Remains.{frame_at}
-use Rattle.paused.specs.Kept.{nobody}
-use Rattle.paused.specs.declared.Phase.{Phase}
-use Rattle.paused.specs.declared.Phase.TheVariants.{Running, Over}
-use Rattle.paused.specs.declared.Going.{Going}
+use Rattle.returning.specs.of_taking.declared.Run.{Run}
+use Rattle.returning.specs.of_answers.Answers.{start_of}
+use Rattle.returning.specs.of_answers.declared.Answer.TheVariants.{Alarm}
+use Rattle.returning.specs.of_interpreter.Answers.{main_at}
+use Rattle.returning.specs.of_resuming.Remains.{frame_at}
+use Rattle.returning.specs.of_paused.Kept.{nobody}
+use Rattle.returning.specs.of_paused.declared.Phase.{Phase}
+use Rattle.returning.specs.of_paused.declared.Phase.TheVariants.{Running, Over}
+use Rattle.returning.specs.of_paused.declared.Going.{Going}
 use Rattle.returning.specs.Moving.{within_of, entry_of}
 
 -- no program waits

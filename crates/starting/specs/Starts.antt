@@ -4,12 +4,12 @@ use Rattle.settings.specs.declared.Settings.{Settings}
 use Rattle.settings.specs.Points.{with_points}
 use Rattle.settings.specs.Wrong.{settings_wrong}
 use Rattle.state.specs.Known.{Sound}
-use Rattle.interpreter.specs.Answers.{interpretation, places_of}
-use Rattle.resuming.specs.Handed.{Left, left_of, roomy}
-use Rattle.paused.specs.Kept.{Kept}
-use Rattle.paused.specs.declared.Phase.{Phase}
-use Rattle.paused.specs.declared.Phase.TheVariants.{Running, Over}
-use Rattle.paused.specs.declared.Going.{Going}
+use Rattle.returning.specs.of_interpreter.Answers.{interpretation, places_of}
+use Rattle.returning.specs.of_resuming.Handed.{Left, left_of, roomy}
+use Rattle.returning.specs.of_paused.Kept.{Kept}
+use Rattle.returning.specs.of_paused.declared.Phase.{Phase}
+use Rattle.returning.specs.of_paused.declared.Phase.TheVariants.{Running, Over}
+use Rattle.returning.specs.of_paused.declared.Going.{Going}
 use Rattle.returning.specs.Standing.{left_for, task_for, PlacedOn}
 
 -- the list engine's records and its answer, with a buffer of 64,008 bytes and a table of places of so many entries

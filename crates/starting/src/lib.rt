@@ -4,19 +4,20 @@
 
 ghost use Rattle.std.specs.Prelude.{◌≡◌, ◌≤◌, length, take};
 ghost use Rattle.places.specs.Places.{Row, program_in};
-ghost use Rattle.interpreter.specs.Answers.{places_of};
-ghost use Rattle.resuming.specs.Handed.{roomy};
+ghost use Rattle.returning.specs.of_interpreter.Answers.{places_of};
+ghost use Rattle.returning.specs.of_resuming.Handed.{roomy};
 ghost use Rattle.starting.specs.Begun.{standing_at, refused_with, begun_at};
 ghost use Rattle.starting.specs.Starts.{StartMeets};
 
+use returning::answers;
 use ahead::{Frame, ProgramAt};
-use answers::Answer;
-use paused::{Going, Phase};
+use returning::answers::Answer;
+use returning::paused::{Going, Phase};
 use places::Found;
 use reading::Read;
-use resuming::Waiting;
+use returning::resuming::Waiting;
 use settings::Settings;
-use taking::Run;
+use returning::taking::Run;
 
 // A run that stands in a program before its first block, or one that is over at once: no program waits.
 fn standing(frame: Frame, run: Run, phase: Phase, end: usize, filled: usize) -> Going

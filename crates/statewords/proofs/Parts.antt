@@ -12,7 +12,7 @@ use Rattle.octets.specs.Bytes.{laid}
 use Rattle.octets.proofs.Laying.{lent, length_laid}
 use Rattle.cyclewords.specs.Sizes.{due_words}
 use Rattle.planwords.specs.Plan.{plan_words}
-use Rattle.runwords.specs.Taken.{going_words}
+use Rattle.runlaid.specs.of_runwords.Taken.{going_words}
 use Rattle.statewords.specs.State.{state_words, due_in, plan_in, going_in}
 
 -- ---- what stands before the words that were laid, where they are, and behind them

@@ -10,16 +10,16 @@ use borrow.Rule.Slice.PartMut.{put_mid}
 use Rattle.octets.specs.Bytes.{laid}
 use Rattle.octets.proofs.Laying.{length_laid}
 use Rattle.moves.specs.declared.Origin.{Origin}
-use Rattle.stages.specs.declared.Due.{Due}
-use Rattle.stages.specs.declared.Plan.{Plan}
-use Rattle.resumable.specs.Kept.{kept, with_deed}
+use Rattle.planwords.specs.of_stages.declared.Due.{Due}
+use Rattle.planwords.specs.of_stages.declared.Plan.{Plan}
+use Rattle.planwords.specs.of_resumable.Kept.{kept, with_deed}
 use Rattle.cyclewords.specs.Sizes.{due_words}
 use Rattle.handwords.specs.Due.{is_empty, slot_of, due_by}
 use Rattle.planwords.specs.Plan.{plan_words, plan_of, origin_of}
-use Rattle.runwords.specs.Taken.{going_words, going_of}
-use Rattle.taking.specs.declared.Hand.{Hand}
-use Rattle.taking.specs.declared.Hand.TheVariants.{Nothing, Block}
-use Rattle.paused.specs.declared.Going.{Going}
+use Rattle.runlaid.specs.of_runwords.Taken.{going_words, going_of}
+use Rattle.runlaid.specs.of_taking.declared.Hand.{Hand}
+use Rattle.runlaid.specs.of_taking.declared.Hand.TheVariants.{Nothing, Block}
+use Rattle.runlaid.specs.of_paused.declared.Going.{Going}
 use Rattle.statewords.specs.State.{state_words, due_in, plan_in, going_in, is_empty_in, hand_from, hand_in, run_in, hand_kept, PutMeets}
 use Rattle.statewords.proofs.Parts.{Parts, due_laid, plan_laid, going_laid, going_lent}
 

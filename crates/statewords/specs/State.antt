@@ -1,16 +1,16 @@
 -- THE STATE OF AN ENGINE, AS WORDS STAND FOR IT: the first words are what is due of the present block, those behind them its plan, the last where the run goes on.
 use Rattle.std.specs.Prelude.{◌≡◌, Bool, cond, List, ℕ, ◌+◌, length, take, drop}
 use Rattle.moves.specs.declared.Origin.{Origin}
-use Rattle.stages.specs.declared.Due.{Due}
-use Rattle.stages.specs.declared.Plan.{Plan}
-use Rattle.resumable.specs.Kept.{kept, with_deed}
+use Rattle.planwords.specs.of_stages.declared.Due.{Due}
+use Rattle.planwords.specs.of_stages.declared.Plan.{Plan}
+use Rattle.planwords.specs.of_resumable.Kept.{kept, with_deed}
 use Rattle.cyclewords.specs.Sizes.{due_words}
 use Rattle.handwords.specs.Due.{is_empty, slot_of, due_by}
 use Rattle.planwords.specs.Plan.{plan_words, plan_of, origin_of}
-use Rattle.runwords.specs.Taken.{going_words, going_of}
-use Rattle.taking.specs.declared.Hand.{Hand}
-use Rattle.taking.specs.declared.Hand.TheVariants.{Nothing, Block}
-use Rattle.paused.specs.declared.Going.{Going}
+use Rattle.runlaid.specs.of_runwords.Taken.{going_words, going_of}
+use Rattle.runlaid.specs.of_taking.declared.Hand.{Hand}
+use Rattle.runlaid.specs.of_taking.declared.Hand.TheVariants.{Nothing, Block}
+use Rattle.runlaid.specs.of_paused.declared.Going.{Going}
 
 abbrev pub state_words : ℕ
 state_words = due_words + plan_words + going_words

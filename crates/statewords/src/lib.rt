@@ -3,16 +3,18 @@
 #![tactic(auto)]
 
 ghost use Rattle.std.specs.Prelude.{◌≡◌, length};
-ghost use Rattle.taking.specs.declared.Hand.TheVariants.{Nothing};
-ghost use Rattle.resumable.specs.Kept.{kept};
-ghost use Rattle.runwords.specs.Laid.{Small};
+ghost use Rattle.runlaid.specs.of_taking.declared.Hand.TheVariants.{Nothing};
+ghost use Rattle.planwords.specs.of_resumable.Kept.{kept};
+ghost use Rattle.runlaid.specs.of_runwords.Laid.{Small};
 ghost use Rattle.statewords.specs.State.{state_words, hand_in, run_in, PutMeets, hand_from, hand_kept, plan_in};
 
+pub use runlaid::runwords;
+pub use planwords;
 use cyclewords::DUE_WORDS;
 use moves::Origin;
-use paused::Going;
+use runlaid::paused::Going;
 use planwords::PLAN_WORDS;
-use stages::{Due, Plan};
+use planwords::stages::{Due, Plan};
 
 // Where the plan begins, and where the run.
 pub const PLAN: usize = DUE_WORDS;

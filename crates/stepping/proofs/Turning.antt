@@ -13,26 +13,26 @@ use Rattle.ahead.specs.declared.ProgramAt.{ProgramAt}
 use Rattle.ahead.specs.declared.Onward.{Onward}
 use Rattle.ahead.specs.declared.Onward.TheVariants.{On, Call, Jump, Return, End, Stop}
 use Rattle.ahead.proofs.Places.{found_within}
-use Rattle.taking.specs.Steps.{Task, Step, listed_by, taken_from}
-use Rattle.taking.specs.Hands as hands
-use Rattle.taking.specs.Hands.{in_hand, Falls, Stays, Leads}
-use Rattle.taking.specs.declared.Run.{Run}
-use Rattle.taking.specs.declared.StepDone.{StepDone}
-use Rattle.taking.specs.declared.Hand.{Hand}
-use Rattle.taking.specs.declared.Hand.TheVariants.{Nothing}
-use Rattle.answers.specs.Answers.{place_of}
-use Rattle.resuming.specs.declared.Waiting.{Waiting}
-use Rattle.resuming.specs.Handed.{Made, Left}
-use Rattle.resuming.specs.Engines.{running, turn_by, ahead, joined, remaining}
-use Rattle.paused.specs.Kept.{Fitting, Kept}
-use Rattle.paused.specs.declared.Phase.{Phase}
-use Rattle.paused.specs.declared.Phase.TheVariants.{Running, Over}
-use Rattle.paused.specs.declared.Going.{Going}
-use Rattle.returning.specs.Standing.{stack_of, depth_of, phase_of, left_for, task_for, AllFound, Placed, PlacedOn}
-use Rattle.returning.specs.Moving.{moved_to, gone_on}
-use Rattle.returning.proofs.Going.{Clear, gone_same}
-use Rattle.returning.proofs.Keeping.{Ran, kept_moved, kept_gone}
-use Rattle.returning.proofs.Finding.{gone_stays, gone_placed}
+use Rattle.holding.specs.of_taking.Steps.{Task, Step, listed_by, taken_from}
+use Rattle.holding.specs.of_taking.Hands as hands
+use Rattle.holding.specs.of_taking.Hands.{in_hand, Falls, Stays, Leads}
+use Rattle.holding.specs.of_taking.declared.Run.{Run}
+use Rattle.holding.specs.of_taking.declared.StepDone.{StepDone}
+use Rattle.holding.specs.of_taking.declared.Hand.{Hand}
+use Rattle.holding.specs.of_taking.declared.Hand.TheVariants.{Nothing}
+use Rattle.skipping.specs.of_answers.Answers.{place_of}
+use Rattle.skipping.specs.of_resuming.declared.Waiting.{Waiting}
+use Rattle.skipping.specs.of_resuming.Handed.{Made, Left}
+use Rattle.skipping.specs.of_resuming.Engines.{running, turn_by, ahead, joined, remaining}
+use Rattle.skipping.specs.of_paused.Kept.{Fitting, Kept}
+use Rattle.skipping.specs.of_paused.declared.Phase.{Phase}
+use Rattle.skipping.specs.of_paused.declared.Phase.TheVariants.{Running, Over}
+use Rattle.skipping.specs.of_paused.declared.Going.{Going}
+use Rattle.skipping.specs.of_returning.Standing.{stack_of, depth_of, phase_of, left_for, task_for, AllFound, Placed, PlacedOn}
+use Rattle.skipping.specs.of_returning.Moving.{moved_to, gone_on}
+use Rattle.skipping.proofs.of_returning.Going.{Clear, gone_same}
+use Rattle.skipping.proofs.of_returning.Keeping.{Ran, kept_moved, kept_gone}
+use Rattle.skipping.proofs.of_returning.Finding.{gone_stays, gone_placed}
 use Rattle.skipping.specs.declared.Passed.{Passed}
 use Rattle.stepping.specs.declared.Turned.{Turned}
 use Rattle.holding.specs.Held.{Held}

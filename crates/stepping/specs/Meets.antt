@@ -3,17 +3,17 @@ use Rattle.std.specs.Prelude.{◌≡◌, List, [], ℕ, ◌≤◌, ◌<◌, ℤ,
 use Rattle.settings.specs.Known.{Table, InRange}
 use Rattle.settings.specs.declared.Settings.{Settings}
 use Rattle.state.specs.Known.{Sound}
-use Rattle.taking.specs.declared.Run.{Run}
-use Rattle.taking.specs.declared.Hand.{Hand}
-use Rattle.taking.specs.declared.Hand.TheVariants.{Nothing, Block}
-use Rattle.taking.specs.Hands.{in_hand}
+use Rattle.holding.specs.of_taking.declared.Run.{Run}
+use Rattle.holding.specs.of_taking.declared.Hand.{Hand}
+use Rattle.holding.specs.of_taking.declared.Hand.TheVariants.{Nothing, Block}
+use Rattle.holding.specs.of_taking.Hands.{in_hand}
 use Rattle.holding.specs.Held.{Held}
-use Rattle.paused.specs.Kept.{Fitting, Kept}
-use Rattle.paused.specs.declared.Phase.{Phase}
-use Rattle.paused.specs.declared.Phase.TheVariants.{Running, Over}
-use Rattle.paused.specs.declared.Going.{Going}
+use Rattle.skipping.specs.of_paused.Kept.{Fitting, Kept}
+use Rattle.skipping.specs.of_paused.declared.Phase.{Phase}
+use Rattle.skipping.specs.of_paused.declared.Phase.TheVariants.{Running, Over}
+use Rattle.skipping.specs.of_paused.declared.Going.{Going}
 use Rattle.stepping.specs.declared.Turned.{Turned}
-use Rattle.returning.specs.Standing.{left_for, task_for, PlacedOn, Placed}
+use Rattle.skipping.specs.of_returning.Standing.{left_for, task_for, PlacedOn, Placed}
 
 -- ---- before a turn
 -- the tape is what was read of it; nothing is asked of what the tape and the table of places hold

@@ -5,16 +5,19 @@
 #![tactic(auto)]
 
 ghost use Rattle.std.specs.Prelude.{◌≡◌, length};
-ghost use Rattle.paused.specs.Kept.{Kept};
-ghost use Rattle.paused.specs.declared.Phase.TheVariants.{Running};
-ghost use Rattle.returning.specs.Moving.{gone_on};
+ghost use Rattle.skipping.specs.of_paused.Kept.{Kept};
+ghost use Rattle.skipping.specs.of_paused.declared.Phase.TheVariants.{Running};
+ghost use Rattle.skipping.specs.of_returning.Moving.{gone_on};
 ghost use Rattle.stepping.specs.Meets.{Fit, TurnMeets, Nearer, Stands};
 
+use holding::taking;
+use skipping::returning;
+pub use holding;
 use ahead::{Onward, ProgramAt};
-use answers::Answer;
-use paused::{Going, Phase};
+use skipping::answers::Answer;
+use skipping::paused::{Going, Phase};
 use settings::Settings;
-use taking::{Hand, Run};
+use holding::taking::{Hand, Run};
 
 // What a turn has in hand, and where the run goes on once that is handed out.
 #[derive(Clone, Copy)]

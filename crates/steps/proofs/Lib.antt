@@ -1,2 +1,8 @@
 -- The laws of this crate, for the crates built on it.
 pub mod Writing
+
+-- ---- passed on to the crates above, which do not list the crate themselves
+pub use Rattle.wording.proofs.of_machine as of_machine
+pub use Rattle.wording.proofs.of_taking as of_taking
+pub use Rattle.wording.proofs.of_verdicts as of_verdicts
+pub use Rattle.wording.proofs.of_writing as of_writing

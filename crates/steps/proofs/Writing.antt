@@ -17,12 +17,12 @@ use Rattle.settings.specs.declared.Settings.{Settings}
 use Rattle.ahead.specs.declared.Frame.{Frame}
 use Rattle.ahead.specs.declared.Onward.{Onward}
 use Rattle.ahead.specs.declared.Onward.TheVariants.{On, Call, Jump, Return, End, Stop}
-use Rattle.taking.specs.declared.Run.{Run}
-use Rattle.taking.specs.declared.Hand.{Hand}
-use Rattle.taking.specs.declared.Hand.TheVariants.{Nothing}
-use Rattle.taking.specs.declared.Opened.{Opened}
-use Rattle.taking.specs.Steps.{Task, task_of, taken_from}
-use Rattle.taking.specs.Hands.{in_hand, Able, Falls, Stays, Leads, Lawful, OpenMeets}
+use Rattle.wording.specs.of_taking.declared.Run.{Run}
+use Rattle.wording.specs.of_taking.declared.Hand.{Hand}
+use Rattle.wording.specs.of_taking.declared.Hand.TheVariants.{Nothing}
+use Rattle.wording.specs.of_taking.declared.Opened.{Opened}
+use Rattle.wording.specs.of_taking.Steps.{Task, task_of, taken_from}
+use Rattle.wording.specs.of_taking.Hands.{in_hand, Able, Falls, Stays, Leads, Lawful, OpenMeets}
 use Rattle.steps.specs.Meets.{Needs, Goes, StepMeets}
 
 -- what a step leaves, by where it goes on

@@ -11,9 +11,9 @@ use Rattle.ahead.specs.Ahead.{FoundAt}
 use Rattle.ahead.specs.declared.Frame.{Frame}
 use Rattle.ahead.specs.declared.Onward.{Onward}
 use Rattle.ahead.specs.declared.Onward.TheVariants.{On, Call, Jump, Return, End, Stop}
-use Rattle.taking.specs.declared.Run.{Run}
-use Rattle.taking.specs.declared.StepDone.{StepDone}
-use Rattle.taking.specs.Steps.{Task, listed_by, taken_from}
+use Rattle.wording.specs.of_taking.declared.Run.{Run}
+use Rattle.wording.specs.of_taking.declared.StepDone.{StepDone}
+use Rattle.wording.specs.of_taking.Steps.{Task, listed_by, taken_from}
 
 -- ---- before it
 -- alarms 1 and 3 were judged before, and what is looked up in the first entries of the table of places is what the walk finds

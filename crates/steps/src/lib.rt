@@ -3,3 +3,7 @@
 #![tactic(auto)]
 
 pub mod step;
+
+pub use wording;
+pub use wording::taking;
+pub use wording::stages;

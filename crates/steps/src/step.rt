@@ -1,14 +1,16 @@
 // The next block of a program, done, and its records written.
 ghost use Rattle.std.specs.Prelude.{length};
-ghost use Rattle.taking.specs.Steps.{task_of};
-ghost use Rattle.taking.specs.Meets.{Next};
+ghost use Rattle.wording.specs.of_taking.Steps.{task_of};
+ghost use Rattle.wording.specs.of_taking.Meets.{Next};
 ghost use Rattle.steps.specs.Meets.{Needs, StepMeets};
 
+use wording::taking;
+use wording::putting;
 use ahead::Frame;
 use finding::BlockAt;
 use settings::Settings;
-use taking::quiet::Met;
-use taking::{Hand, Run, StepDone};
+use wording::taking::quiet::Met;
+use wording::taking::{Hand, Run, StepDone};
 
 // Does the block of a line that was found, by its words.
 fn do_words(

@@ -4,7 +4,9 @@
 // The file `stdin` holds them: a name, LF, lines of settings (`=held 3` lends a table of three entries), the tape, and byte 30. `stdout` holds what 01 and 02 say of each.
 #![tactic(auto)]
 
-use answers::Answer;
+use comparing::listing;
+use comparing::board;
+use comparing::answers::Answer;
 use std::io;
 use std::io::{Read, Write};
 use stored::compare::Verdict;

@@ -34,7 +34,7 @@ use Rattle.settings.specs.Wrong.{highest_subroutine}
 use Rattle.settings.specs.declared.Settings.{Settings}
 use Rattle.finding.specs.Finding.{first_block}
 use Rattle.finding.specs.Finds.{Finds}
-use Rattle.verdicts.specs.Verdicts.{alarm_in}
+use Rattle.machine.specs.of_verdicts.Verdicts.{alarm_in}
 use Rattle.machine.specs.Blocks.{done_records, done_state, block_records, outcome_of}
 use Rattle.machine.specs.declared.BlockOutcome.TheVariants.{Done}
 use Rattle.machine.proofs.Wordless.{wordless_records, wordless_done, jump_records, jump_done}

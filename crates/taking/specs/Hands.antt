@@ -6,7 +6,7 @@ use Rattle.settings.specs.Known.{Table, InRange}
 use Rattle.settings.specs.declared.Settings.{Settings}
 use Rattle.finding.specs.Finds.{Finds}
 use Rattle.state.specs.Known.{Sound}
-use Rattle.stages.specs.Cursor as cursor
+use Rattle.machine.specs.of_stages.Cursor as cursor
 use Rattle.ahead.specs.Ahead.{FoundAt}
 use Rattle.ahead.specs.declared.Frame.{Frame}
 use Rattle.ahead.specs.declared.Onward.{Onward}

@@ -14,7 +14,7 @@ use Rattle.settings.specs.declared.Settings.{Settings}
 use Rattle.finding.specs.Finding.{first_block, block_number_at}
 use Rattle.places.specs.declared.Found.{Found}
 use Rattle.places.specs.declared.Found.TheVariants.{At, Nowhere}
-use Rattle.verdicts.specs.Verdicts.{alarm_in}
+use Rattle.machine.specs.of_verdicts.Verdicts.{alarm_in}
 use Rattle.machine.specs.Blocks.{done_records, done_state}
 use Rattle.ahead.specs.Ahead.{onto, looked_up}
 use Rattle.ahead.specs.declared.Frame.{Frame}

@@ -11,9 +11,15 @@ ghost use Rattle.ahead.specs.Ahead.{onto};
 ghost use Rattle.taking.specs.Steps.{alarm_by};
 ghost use Rattle.taking.specs.Meets.{stopped_by, went_by};
 
+pub use machine::writing;
+pub use machine::verdicts;
+pub use machine::stages;
+pub use machine::putting;
+pub use machine::opening;
+pub use machine::handing;
 use ahead::{Frame, Onward};
 use moves::Origin;
-use stages::Cursor;
+use machine::stages::Cursor;
 use state::State;
 
 // The alarm that the runner is asked to stop with, 0 for none.

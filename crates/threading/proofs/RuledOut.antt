@@ -44,6 +44,8 @@ one_depth t {x} {y} h a b =
 only_depths : (t : Thread) → wrong t ≡ false → (xs ys : List ℕ) → PassesAt t ys (cut_as t xs) → ys ≡ xs
 unfolding passes pass_on
 only_depths t w [] [] none = λ i. []
+only_depths t w [] (y ∷ ys) h = elim h [ ]
+only_depths t w (x ∷ xs) [] h = elim h [ ]
 only_depths t w (x ∷ xs) (y ∷ ys) (pass a p ps) =
     let r = right t w in
     let here : AtDepth t y (line_at t x) = subst (AtDepth t y) (sym p.cut_to.inward ∙ (thread_goes t (line_at t x) t.path.target).inward) a in
@@ -73,12 +75,12 @@ last_beyond p = rows.beyond (first_cut (600 ∷ 848 ∷ 1039 ∷ 1200 ∷ 1341 �
 -- THE EMPTY CUT LEFT OUT
 pub empty_left_out : Threaded first (cut_as first (600 ∷ 848 ∷ 1039 ∷ 1200 ∷ 1277 ∷ [])) → ⊥
 unfolding rule_of
-empty_left_out p = rows.not-reached (first_cut (600 ∷ 848 ∷ 1039 ∷ 1200 ∷ 1277 ∷ []) p).cuts
+empty_left_out p = rows.not_reached (first_cut (600 ∷ 848 ∷ 1039 ∷ 1200 ∷ 1277 ∷ []) p).cuts
 
 -- ONE EMPTY CUT TOO MANY
 pub empty_twice : Threaded first (cut_as first (600 ∷ 848 ∷ 1039 ∷ 1200 ∷ 1277 ∷ 1277 ∷ 1277 ∷ [])) → ⊥
 unfolding rule_of
-empty_twice p = rows.last-twice (first_cut (600 ∷ 848 ∷ 1039 ∷ 1200 ∷ 1277 ∷ 1277 ∷ 1277 ∷ []) p).cuts
+empty_twice p = rows.last_twice (first_cut (600 ∷ 848 ∷ 1039 ∷ 1200 ∷ 1277 ∷ 1277 ∷ 1277 ∷ []) p).cuts
 
 -- THE EMPTY CUT ON THE CREST
 pub empty_on_crest : Threaded first (cut_as first (600 ∷ 848 ∷ 1039 ∷ 1200 ∷ 1277 ∷ 0 ∷ [])) → ⊥
@@ -111,6 +113,7 @@ unfolding from_first up_to_last
 not_brought_back p = go p.depths p.passes
   where
     go : (xs : List ℕ) → PassesAt first xs unreturned → ⊥
+    go [] h = elim h [ ]
     go (x ∷ xs) (pass a q ps) = absurd (omega (whole, q.back_to.inward))
 
 -- STOPPED BETWEEN TWO PASSES, by an M05
@@ -122,9 +125,11 @@ unfolding from_first up_to_last
 stopped_between p = go p.depths p.passes
   where
     next : (xs : List ℕ) → PassesAt first xs stopped → ⊥
+    next [] h = elim h [ ]
     next (x ∷ xs) (pass a q ps) = absurd (omega (arith, q.in_to.is))
 
     go : (xs : List ℕ) → PassesAt first xs (pass_at (pos 28900) stopped) → ⊥
+    go [] h = elim h [ ]
     go (x ∷ xs) (pass a q ps) = next xs ps
 
 -- THE NOMINAL DIAMETER TAKEN FOR THE CORE: the third example with bit 2, whose target is 30000, begun 2 x (1227 - 600) outside it
@@ -141,4 +146,5 @@ unfolding from_first up_to_last
 taken_for_the_core p = go p.depths p.passes
   where
     go : (xs : List ℕ) → PassesAt (third 2) xs outside → ⊥
+    go [] h = elim h [ ]
     go (x ∷ xs) (pass a q ps) = absurd (omega (whole, a.short, q.cut_to.inward, a.on, add_in (pos 31000) (neg_ℤ (pos a.way)), up_neg (pos a.way), down_neg (pos a.way)))

@@ -26,7 +26,7 @@ use Rattle.depths.specs.Promised.{Rises}
 use Rattle.cuts.specs.Cuts as cut
 use Rattle.depths.proofs.Rows.{starts}
 use Rattle.depths.proofs.Kept.{row_rises}
-use Rattle.cuts.proofs.Opened as cut-laws
+use Rattle.cuts.proofs.Opened as cut_laws
 use Rattle.threading.specs.declared.Thread.{Thread}
 use Rattle.threading.specs.declared.Pass.{Pass}
 use Rattle.threads.specs.declared.Stage.{Stage}
@@ -112,7 +112,7 @@ module _ (c : Cursor) (sound : Sound c) (stage : c.stage ≡ In) where
       x = c.depth
 
       none : cuts_left c ≡ []
-      none = cut_laws.rest-none c.depth c.cuts o
+      none = cut_laws.rest_none c.depth c.cuts o
 
 -- a cut more
 module _ (c : Cursor) (sound : Sound c) {x : ℕ} {cs : Cuts} (next : cut.Makes c.depth c.cuts x cs) where
@@ -191,7 +191,7 @@ none_at : (s : Stage) (c : Cursor) → over_at s c ≡ true → rest_at s c ≡ 
 unfolding rest_at passes repeated
 none_at In c e =
     let h = two (cut.over c.cuts) (eqb c.empty 0) e in
-    λ i. passes c.pass (map (line_of c) ((ap (λ (xs : List ℕ). repeated c.depth xs c.empty) (cut_laws.rest-none c.depth c.cuts h.0) ∙ ap (λ (n : ℕ). replicate n c.depth) (eqb-true c.empty 0 h.1)) i))
+    λ i. passes c.pass (map (line_of c) ((ap (λ (xs : List ℕ). repeated c.depth xs c.empty) (cut_laws.rest_none c.depth c.cuts h.0) ∙ ap (λ (n : ℕ). replicate n c.depth) (eqb-true c.empty 0 h.1)) i))
 none_at Cut c e = absurd (false≢true e)
 none_at Out c e = absurd (false≢true e)
 none_at Back c e = absurd (false≢true e)

@@ -3,7 +3,7 @@
 #![tactic(auto)]
 
 ghost use Rattle.std.specs.Prelude.{◌≡◌, true, false, ◌<◌};
-ghost use Rattle.cuts.specs.Cuts as cut;{
+ghost use Rattle.cuts.specs.Cuts as cut;
 ghost use Rattle.threading.specs.Threading.{wrong, threading, Told};
 ghost use Rattle.threads.specs.declared.Stage.TheVariants.{In, Cut, Out, Back};
 ghost use Rattle.threads.specs.Cursor.{rest_of, over, at, Sound, Makes};

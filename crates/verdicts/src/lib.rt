@@ -8,7 +8,7 @@ ghost use Rattle.state.specs.Modal.{settled};
 ghost use Rattle.state.specs.Known.{Sound};
 ghost use Rattle.settings.specs.Known.{Table, InRange};
 ghost use Rattle.deeds.specs.Known.{Known};
-ghost use Rattle.verdicts.specs.Known as verdict;{
+ghost use Rattle.verdicts.specs.Known as verdict;
 ghost use Rattle.verdicts.specs.Verdicts.{sending_of, deed_in, asked_in, verdict_of};
 
 use asking::Asked;

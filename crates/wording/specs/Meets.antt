@@ -3,8 +3,8 @@ use Rattle.std.specs.Prelude.{◌≡◌, ℕ, ◌+◌, length}
 use Rattle.moves.specs.Form.{stamped}
 use Rattle.moves.specs.declared.Origin.{Origin}
 use Rattle.block.specs.declared.Block.{Block}
-use Rattle.writing.specs.Writes.{done, writes}
-use Rattle.verdicts.specs.declared.Going.{Going}
+use Rattle.taking.specs.of_writing.Writes.{done, writes}
+use Rattle.taking.specs.of_verdicts.declared.Going.{Going}
 use Rattle.ahead.specs.declared.Onward.{Onward}
 use Rattle.taking.specs.declared.Run.{Run}
 use Rattle.taking.specs.declared.Opened.{Opened}

@@ -6,12 +6,18 @@ ghost use Rattle.places.specs.Places.{Row};
 ghost use Rattle.moves.specs.Form.{record_limit, stamped};
 ghost use Rattle.asking.specs.Judge.{doing};
 ghost use Rattle.deeds.specs.Known.{Right, Known};
-ghost use Rattle.writing.specs.Writes.{writes};
+ghost use Rattle.taking.specs.of_writing.Writes.{writes};
 ghost use Rattle.taking.specs.Steps.{block_in};
 ghost use Rattle.taking.specs.Hands.{in_hand, HandSound, Able, OpenMeets};
 ghost use Rattle.taking.specs.Meets.{onward_in, Asks, origin_in, Starts, Next, refused_by};
 ghost use Rattle.wording.specs.Meets.{GoingMeets};
 
+use taking::writing;
+use taking::verdicts;
+use taking::opening;
+pub use taking;
+pub use taking::stages;
+pub use taking::putting;
 use ahead::{Frame, Onward};
 use block::Block;
 use deeds::Deed;
@@ -20,7 +26,7 @@ use moves::Origin;
 use settings::Settings;
 use state::State;
 use taking::{Hand, Opened, Run};
-use verdicts::{Going, Verdict};
+use taking::verdicts::{Going, Verdict};
 
 // The numbers of a program and of a block have 16 bits in a record.
 const SIXTEEN_BITS: u32 = 65_536;

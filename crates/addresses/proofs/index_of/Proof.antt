@@ -28,29 +28,29 @@ either a = go (eqb a letter_p) (eqb a letter_d)
     go false true e = refl
     go false false e = sym e
 
-returns : tie.Need-returns
-returns c = (rw (neither c.before.args.address c.if1.true), c.before.requires.0)
+returns : tie.Need-returns-then-address
+returns c = (rw (neither c.args.address c.if-address.true), c.requires.0)
 
-returns_2 : tie.Need-returns-2
-returns_2 c = (rw (either c.before.before.args.address c.before.if1.false, lt-ltb _ _ c.if2.true), tt)
+returns_2 : tie.Need-returns-then-end-from-lt2
+returns_2 c = (rw (either c.args.address c.if-address.false, lt-ltb _ _ c.if-end-from-lt2.true), tt)
 
-returns_3 : tie.Need-returns-3
-returns_3 c = (rw (either c.before.before.before.before.args.address c.before.before.before.if1.false, le-ltb _ _ c.before.before.if2.false, lt-leb _ _ c.if3.true), tt)
+returns_3 : tie.Need-returns-then-digit-lt48
+returns_3 c = (rw (either c.args.address c.if-address.false, le-ltb _ _ c.if-end-from-lt2.false, lt-leb _ _ c.if-digit-lt48.true), tt)
 
-returns_4 : tie.Need-returns-4
-returns_4 c = (rw (either c.before.before.before.before.before.args.address c.before.before.before.before.if1.false, le-ltb _ _ c.before.before.before.if2.false, le-leb _ _ c.before.if3.false, lt-leb _ _ c.if4.true), tt)
+returns_4 : tie.Need-returns-then-digit-gt57
+returns_4 c = (rw (either c.args.address c.if-address.false, le-ltb _ _ c.if-end-from-lt2.false, le-leb _ _ c.if-digit-lt48.false, lt-leb _ _ c.if-digit-gt57.true), tt)
 
-returns_5 : tie.Need-returns-5
+returns_5 : tie.Need-returns-then-line-from-ne61
 returns_5 c =
-    let o = c.before.before in
-    let t = o.before.before.before in
-    (rw (either t.before.before.args.address t.before.if1.false, le-ltb _ _ t.if2.false, le-leb _ _ o.before.if3.false, le-leb _ _ o.if4.false, ne_eqb _ _ c.if5.true), tt)
+    let o = c in
+    let t = o in
+    (rw (either t.args.address t.if-address.false, le-ltb _ _ t.if-end-from-lt2.false, le-leb _ _ o.if-digit-lt48.false, le-leb _ _ o.if-digit-gt57.false, ne_eqb _ _ c.if-line-from-ne61.true), tt)
 
-returns_6 : tie.Need-returns-6
+returns_6 : tie.Need-returns
 returns_6 c =
-    let o = c.before.before in
-    let t = o.before.before.before in
-    (rw (either t.before.before.args.address t.before.if1.false, le-ltb _ _ t.if2.false, le-leb _ _ o.before.if3.false, le-leb _ _ o.if4.false, eq-eqb _ _ c.if5.false), omega (arith, t.if2.false))
+    let o = c in
+    let t = o in
+    (rw (either t.args.address t.if-address.false, le-ltb _ _ t.if-end-from-lt2.false, le-leb _ _ o.if-digit-lt48.false, le-leb _ _ o.if-digit-gt57.false, eq-eqb _ _ c.if-line-from-ne61.false), omega (arith, t.if-end-from-lt2.false))
 
 pub index_of_spec : {M : Type 1} → statement M
 index_of_spec =

@@ -41,20 +41,20 @@ of_another w e = sym (by_asked w ∙ ap (λ (a : Bool). a && (not w.pointed && n
 of_these : (w : Word) → w.pointed ≡ false → asked w ≡ true → not (eqb (nat_abs w.value) 0) ≡ lacks_point w
 of_these w p a = sym (by_asked w ∙ (λ i. a i && (not (p i) && not (eqb (nat_abs w.value) 0))))
 
-returns : tie.Need-returns
-returns c = with_point c.before.args.w c.if1.true
+returns : tie.Need-returns-then-w
+returns c = with_point c.args.w c.if-w.true
 
-returns_2 : tie.Need-returns-2
-returns_2 c = of_another c.before.before.args.w (not-true _ c.if2.true)
+returns_2 : tie.Need-returns-then-not-asked
+returns_2 c = of_another c.args.w c.if-not-asked.true
 
 -- the word's number, as the machine reads it back from its bits
-same_value : (c : tie.After-magnitude) → let w = c.before.before.before.before.args.w in to_z w32 (of_z w32 w.value) ≡ w.value
+same_value : (c : tie.After-magnitude) → let w = c.args.w in to_z w32 (of_z w32 w.value) ≡ w.value
 same_value c = search rules
 
-returns_3 : tie.Need-returns-3
+returns_3 : tie.Need-returns
 returns_3 c =
-    let e = c.before.before in
-    ap (λ (n : ℕ). not (eqb n 0)) (c.magnitude.ensures ∙ ap nat_abs (same_value c)) ∙ of_these e.before.before.args.w e.before.if1.false (not-false _ e.if2.false)
+    let e = c in
+    ap (λ (n : ℕ). not (eqb n 0)) (c.magnitude.ensures ∙ ap nat_abs (same_value c)) ∙ of_these e.args.w e.if-w.false e.if-not-asked.false
 
 pub lacks_point_spec : {M : Type 1} → statement M
 lacks_point_spec = tie.close (tie.spec returns returns_2 (λ c κs. search rules) returns_3)

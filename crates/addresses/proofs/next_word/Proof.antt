@@ -8,23 +8,23 @@ use Rattle.addresses.proofs.Wording.{next_by}
 use Rattle.addresses.proofs.next_word.Statement.{statement}
 use Rattle.addresses.proofs.next_word.Tie as tie
 
-returns : tie.Need-returns
+returns : tie.Need-returns-then-p-line
 unfolding next_word
 returns c =
-    let o = c.before.before in
-    (rw (← o.before.before.skip-gap.ensures.0, o.gap.given.1, le-ltb _ _ c.if1.true), tt)
+    let o = c in
+    (rw (← o.skip_gap-gap.ensures.0, o.in-At.is, le-ltb _ _ c.if-p-line.true), tt)
 
-returns_2 : tie.Need-returns-2
+returns_2 : tie.Need-returns-in-Fault
 unfolding next_word
-returns_2 c = (rw (← c.before.before.skip-gap.ensures.0, c.enum_told.given.1), tt)
+returns_2 c = (rw (← c.skip_gap-gap.ensures.0, c.in-Fault.is), tt)
 
-returns_3 : tie.Need-returns-3
+returns_3 : tie.Need-returns-else-p-line
 unfolding next_word
 returns_3 c =
-    let o = c.before.before.before in
-    let a = o.before.before.before.before in
+    let o = c in
+    let a = o in
     next_by a.args.line.now a.args.from a.requires
-    (c.word_at.ensures.0 ∙ sym (rw (← o.before.before.skip-gap.ensures.0, o.gap.given.1, lt-ltb _ _ c.before.if1.false)))
+    (c.word_at.ensures.0 ∙ sym (rw (← o.skip_gap-gap.ensures.0, o.in-At.is, lt-ltb _ _ c.if-p-line.false)))
 
 pub next_word_spec : {M : Type 1} → statement M
 next_word_spec =

@@ -8,16 +8,15 @@ use Rattle.addresses.specs.Words.{number_word}
 use Rattle.addresses.proofs.number_word.Statement.{statement}
 use Rattle.addresses.proofs.number_word.Tie as tie
 
-returns : tie.Need-returns
+returns : tie.Need-returns-in-Bad
 unfolding number_word
-returns c = rw (← c.before.before.read_number.ensures, c.enum_told.given.1)
+returns c = rw (← c.read_number-number.ensures, c.in-Bad.is)
 
-returns_2 : tie.Need-returns-2
+returns_2 : tie.Need-returns-in-Value
 unfolding number_word
 returns_2 c =
-    let n = c.before.number.given in
-    let e : to_z w32 (of_z w32 n.0.0) ≡ n.0.0 = search rules in
-    rw (e, ← c.before.before.before.read_number.ensures, n.1)
+    let e : to_z w32 (of_z w32 c.in-Value.value) ≡ c.in-Value.value = search rules in
+    rw (e, ← c.read_number-number.ensures, c.in-Value.is)
 
 pub number_word_spec : {M : Type 1} → statement M
 number_word_spec =

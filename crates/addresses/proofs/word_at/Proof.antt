@@ -11,53 +11,53 @@ use Rattle.addresses.proofs.word_at.Statement.{statement}
 use Rattle.addresses.proofs.word_at.Tie as tie
 
 -- the word by the address and the end that were found
-found : (c : tie.After-number-end)
-    → word_at c.before.before.before.before.args.line.now c.before.before.before.before.args.p
-    ≡ addressed c.before.before.before.before.args.line.now c.before.capital-of.result (form_of c.before.capital-of.result)
-    (c.before.before.before.before.args.p + 1) c.number-end.result
+found : (c : tie.After-number_end-end)
+    → word_at c.args.line.now c.args.p
+    ≡ addressed c.args.line.now c.capital_of-address.result (form_of c.capital_of-address.result)
+    (c.args.p + 1) c.number_end-end.result
 unfolding word_at
-found c = rw (c.before.capital-of.ensures, c.number-end.ensures.0)
+found c = rw (c.capital_of-address.ensures, c.number_end-end.ensures.0)
 
 -- the word where its form is known, too
-formed : (c : tie.After-number-end) {x : Address} → x ≡ form_of c.before.capital-of.result → {y : Address} → x ≡ y
-    → addressed c.before.before.before.before.args.line.now c.before.capital-of.result y (c.before.before.before.before.args.p + 1) c.number-end.result
-    ≡ word_at c.before.before.before.before.args.line.now c.before.before.before.before.args.p
+formed : (c : tie.After-number_end-end) {x : Address} → x ≡ form_of c.capital_of-address.result → {y : Address} → x ≡ y
+    → addressed c.args.line.now c.capital_of-address.result y (c.args.p + 1) c.number_end-end.result
+    ≡ word_at c.args.line.now c.args.p
 formed c e h =
-    let a = c.before.before.before.before.args in
-    sym (found c ∙ ap (λ (y : Address). addressed a.line.now c.before.capital-of.result y (a.p + 1) c.number-end.result) (sym e ∙ h))
+    let a = c.args in
+    sym (found c ∙ ap (λ (y : Address). addressed a.line.now c.capital_of-address.result y (a.p + 1) c.number_end-end.result) (sym e ∙ h))
 
-number_word_requires : tie.Need-number-word-requires
+number_word_requires : tie.Need-number_word-requires
 number_word_requires c κs =
-    let i = c.before.before.before.before.before in
-    let n = i.before.before.before in
-    (subst (λ (x : Index). IndexIn x n.number-end.result) i.index.given.1 i.before.before.index_of.ensures.1, n.number-end.ensures.2)
+    let i = c in
+    let n = i in
+    (subst (λ (x : Index). IndexIn x n.number_end-end.result) i.in-At.is i.index_of-index.ensures.1, n.number_end-end.ensures.2)
 
-returns : tie.Need-returns
+returns : tie.Need-returns-in-Bad
 returns c =
-    let o = c.before.before in
-    let n = o.before in
-    let a = n.before.before.before.before.args in
-    let address = n.before.capital-of.result in
-    (no_index a.line.now address (a.p + 1) n.number-end.result o.index_of.ensures.0 (form_of address) c.enum_told.given.1 ∙ sym (found n), tt)
+    let o = c in
+    let n = o in
+    let a = n.args in
+    let address = n.capital_of-address.result in
+    (no_index a.line.now address (a.p + 1) n.number_end-end.result o.index_of-index.ensures.0 (form_of address) c.in-Bad.is ∙ sym (found n.before.before), tt)
 
-returns_2 : tie.Need-returns-2
+returns_2 : tie.Need-returns-in-Unknown
 returns_2 c =
-    let f = c.before.before in
-    (formed f.before.before.before.before.before f.form_of.ensures c.enum-told2.given.1, tt)
+    let f = c in
+    (formed f.before.before.before.before f.form_of-known.ensures c.in-Unknown.is, tt)
 
-returns_3 : tie.Need-returns-3
+returns_3 : tie.Need-returns-in-Known
 returns_3 c =
-    let k = c.before.before in
-    let f = k.before.before in
-    let i = f.before.before in
-    let o = i.before.before in
-    let n = o.before in
-    let s = n.before.before.before.before in
+    let k = c in
+    let f = k in
+    let i = f in
+    let o = i in
+    let n = o in
+    let s = n in
     let a = s.args in
     word_by_lem a.line.now a.p s.requires
     (c.number_word.ensures
-    ∙ by_index a.line.now n.before.capital-of.result (a.p + 1) n.number-end.result o.index_of.ensures.0 k.known.given.0.0 i.index.given.1
-    ∙ formed n f.form_of.ensures k.known.given.1)
+    ∙ by_index a.line.now n.capital_of-address.result (a.p + 1) n.number_end-end.result o.index_of-index.ensures.0 k.in-Known.form i.in-At.is
+    ∙ formed n.before.before.before.before.before f.form_of-known.ensures k.in-Known.is)
 
 pub word_at_spec : {M : Type 1} → statement M
 word_at_spec =

@@ -21,43 +21,43 @@ seeks_none : (row : List ℕ) (set : Settings) (f : Frame) (n : Request) (r : On
 unfolding looked_up_in
 seeks_none row set f n r e = (λ _. e _ _, record { found = Nowhere; looks = e _ _ })
 
-returns : tie.Need-returns
+returns : tie.Need-returns-then-n-set
 unfolding looked_by
-returns c = seeks_none _ _ _ _ _ (λ _ _. rw (c.before.before.before.next.given.1, c.if1.true))
+returns c = seeks_none _ _ _ _ _ (λ _ _. rw (c.in-Call.is, c.if-n-set.true))
 
-returns_2 : tie.Need-returns-2
+returns_2 : tie.Need-returns-then-frame-eq-MOST_CALLS
 unfolding looked_by
-returns_2 c = seeks_none _ _ _ _ _ (λ _ _. rw (c.before.before.enum-told2.given.1, eq-eqb _ _ c.if2.true))
+returns_2 c = seeks_none _ _ _ _ _ (λ _ _. rw (c.in-Return.is, eq-eqb _ _ c.if-frame-eq-MOST_CALLS.true))
 
-returns_3 : tie.Need-returns-3
+returns_3 : tie.Need-returns-then-frame-eq-MOST_CALLS-2
 unfolding looked_by
-returns_3 c = seeks_none _ _ _ _ _ (λ _ _. rw (c.before.before.enum-told3.given.1, eq-eqb _ _ c.if3.true))
+returns_3 c = seeks_none _ _ _ _ _ (λ _ _. rw (c.in-End.is, eq-eqb _ _ c.if-frame-eq-MOST_CALLS-2.true))
 
-returns_4 : tie.Need-returns-4
+returns_4 : tie.Need-returns-in-On
 unfolding looked_by
-returns_4 c = seeks_none _ _ _ _ _ (λ _ _. rw c.enum_told.given.1)
+returns_4 c = seeks_none _ _ _ _ _ (λ _ _. rw c.in-On.is)
 
-returns_5 : tie.Need-returns-5
+returns_5 : tie.Need-returns-else-n-set
 unfolding looked_up_in looked_by
 returns_5 c = (
-  λ row. c.called_at.ensures ∙ rw (c.before.find-program.ensures row, c.before.before.before.before.before.next.given.1, c.before.before.if1.false),
-  record { found = c.before.find-program.result; looks = c.called_at.ensures ∙ rw (c.before.before.before.before.before.next.given.1, c.before.before.if1.false) },
+  λ row. c.called_at.ensures ∙ rw (c.find_program-found.ensures row, c.in-Call.is, c.if-n-set.false),
+  record { found = c.find_program-found.result; looks = c.called_at.ensures ∙ rw (c.in-Call.is, c.if-n-set.false) },
 )
 
-returns_6 : tie.Need-returns-6
+returns_6 : tie.Need-returns-in-Jump
 unfolding looked_up_in looked_by
 returns_6 c = (
-  λ row. c.jumped-to.ensures ∙ rw (c.before.find-block.ensures row, c.before.before.before.before.next2.given.1),
-  record { found = c.before.find-block.result; looks = c.jumped-to.ensures ∙ rw c.before.before.before.before.next2.given.1 },
+  λ row. c.jumped_to.ensures ∙ rw (c.find_block-found.ensures row, c.in-Jump.is),
+  record { found = c.find_block-found.result; looks = c.jumped_to.ensures ∙ rw c.in-Jump.is },
 )
 
-returns_7 : tie.Need-returns-7
+returns_7 : tie.Need-returns-else-frame-eq-MOST_CALLS
 unfolding looked_by
-returns_7 c = seeks_none _ _ _ _ _ (λ _ _. rw (c.before.before.enum-told2.given.1, ne_eqb _ _ c.if2.false))
+returns_7 c = seeks_none _ _ _ _ _ (λ _ _. rw (c.in-Return.is, ne_eqb _ _ c.if-frame-eq-MOST_CALLS.false))
 
-returns_8 : tie.Need-returns-8
+returns_8 : tie.Need-returns-else-frame-eq-MOST_CALLS-2
 unfolding looked_by
-returns_8 c = seeks_none _ _ _ _ _ (λ _ _. rw (c.before.before.enum-told3.given.1, ne_eqb _ _ c.if3.false))
+returns_8 c = seeks_none _ _ _ _ _ (λ _ _. rw (c.in-End.is, ne_eqb _ _ c.if-frame-eq-MOST_CALLS-2.false))
 
 pub look_up_spec : {M : Type 1} → statement M
 look_up_spec =

@@ -10,7 +10,7 @@ centre_requires c κs = search rules
 
 returns : tie.Need-returns
 unfolding centre_record
-returns c = c.centre2.ensures ∙ search rules
+returns c = c.centre.ensures ∙ search rules
 
 pub centre_record_spec : {M : Type 1} → statement M
 centre_record_spec = tie.close (tie.spec centre_requires returns)

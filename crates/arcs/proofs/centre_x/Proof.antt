@@ -21,10 +21,10 @@ fit s i h k =
     let b = in_range i k in
     record { double = omega (whole, up_mul 2 i, down_mul 2 i); centre = omega (whole, up_mul 2 i, down_mul 2 i, add_in s (pos 2 *ℤ i)) }
 
-mul_result : tie.Need-overflow-mul-result
+mul_result : tie.Need-overflow_mul-result
 mul_result c = prod_need (num w32 (pos 2) tt) (held c.ranges.i) (fit c.args.start c.args.i c.requires.0 c.requires.1).double
 
-add_result : tie.Need-overflow-add-result
+add_result : tie.Need-overflow_add-result
 add_result c =
     let f = fit c.args.start c.args.i c.requires.0 c.requires.1 in
     sum_need (held c.ranges.start) (prod (num w32 (pos 2) tt) (held c.ranges.i) f.double) f.centre

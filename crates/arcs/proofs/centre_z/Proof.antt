@@ -17,7 +17,7 @@ fit s k h g =
     let b = in_range k g in
     omega (whole, add_in s k)
 
-add_result : tie.Need-overflow-add-result
+add_result : tie.Need-overflow_add-result
 add_result c = sum_need (held c.ranges.start) (held c.ranges.k) (fit c.args.start c.args.k c.requires.0 c.requires.1)
 
 returns : tie.Need-returns

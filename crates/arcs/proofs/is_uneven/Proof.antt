@@ -31,43 +31,43 @@ of_arc : (a : Arc) (m n : ℕ) → m ≡ square (start_of a) → n ≡ square (e
 unfolding uneven
 of_arc a m n e f = λ i. judged (e i) (f i)
 
-from : (c : tie.After-arrow-to) → c.arrow-to.result ≡ start_of c.before.before.before.before.args.a
+from : (c : tie.After-arrow_to) → c.arrow_to.result ≡ start_of c.args.a
 unfolding start_of
-from c = c.arrow-to.ensures
+from c = c.arrow_to.ensures
 
-to : (c : tie.After-arrow-to2) → c.arrow-to2.result ≡ end_of c.before.before.before.before.before.before.args.a
+to : (c : tie.After-arrow_to-2) → c.arrow_to-2.result ≡ end_of c.args.a
 unfolding end_of
-to c = c.arrow-to2.ensures
+to c = c.arrow_to-2.ensures
 
-m_is : (c : tie.After-square-of) → c.square-of.result ≡ square (start_of c.before.before.before.before.before.args.a)
-m_is c = c.square-of.ensures ∙ ap square (from c.before)
+m_is : (c : tie.After-square_of-m) → c.square_of-m.result ≡ square (start_of c.args.a)
+m_is c = c.square_of-m.ensures ∙ ap square (from c.before)
 
-n_is : (c : tie.After-square-of2) → c.square-of2.result ≡ square (end_of c.before.before.before.before.before.before.before.args.a)
-n_is c = c.square-of2.ensures ∙ ap square (to c.before)
+n_is : (c : tie.After-square_of-n) → c.square_of-n.result ≡ square (end_of c.args.a)
+n_is c = c.square_of-n.ensures ∙ ap square (to c.before)
 
-arrow_to_requires : tie.Need-arrow-to-requires
+arrow_to_requires : tie.Need-arrow_to-requires
 arrow_to_requires c κs = search rules
 
-square_of_requires : tie.Need-square-of-requires
-square_of_requires c κs = subst Sized (sym (from c)) (start_sized c.before.before.before.before.requires)
+square_of_requires : tie.Need-square_of-m-requires
+square_of_requires c κs = subst Sized (sym (from c)) (start_sized c.requires)
 
-arrow_to_requires_2 : tie.Need-arrow-to-requires-2
+arrow_to_requires_2 : tie.Need-arrow_to-requires-2
 arrow_to_requires_2 c κs = search rules
 
-square_of_requires_2 : tie.Need-square-of-requires-2
-square_of_requires_2 c κs = subst Sized (sym (to c)) (end_sized c.before.before.before.before.before.before.requires)
+square_of_requires_2 : tie.Need-square_of-n-requires
+square_of_requires_2 c κs = subst Sized (sym (to c)) (end_sized c.requires)
 
-returns : tie.Need-returns
+returns : tie.Need-returns-then-m-eq0
 returns c =
-    let d = c.before in
-    let s = d.before.before.before.before.before.before.before in
-    sym (start_zero d.before.before.square-of.result d.square-of2.result c.if1.true) ∙ of_arc s.args.a d.before.before.square-of.result d.square-of2.result (m_is d.before.before) (n_is d)
+    let d = c in
+    let s = d in
+    sym (start_zero d.square_of-m.result d.square_of-n.result c.if-m-eq0.true) ∙ of_arc s.args.a d.square_of-m.result d.square_of-n.result (m_is d.before.before.before) (n_is d.before)
 
-returns_2 : tie.Need-returns-2
+returns_2 : tie.Need-returns-then-n-eq0
 returns_2 c =
-    let d = c.before.before in
-    let s = d.before.before.before.before.before.before.before in
-    sym (end_zero d.before.before.square-of.result d.square-of2.result c.before.if1.false c.if2.true) ∙ of_arc s.args.a d.before.before.square-of.result d.square-of2.result (m_is d.before.before) (n_is d)
+    let d = c in
+    let s = d in
+    sym (end_zero d.square_of-m.result d.square_of-n.result c.if-m-eq0.false c.if-n-eq0.true) ∙ of_arc s.args.a d.square_of-m.result d.square_of-n.result (m_is d.before.before.before.before) (n_is d.before.before)
 
 record Small (m n : ℕ) : Type 0 where
   least : min m n ≤ start_square
@@ -76,26 +76,26 @@ record Small (m n : ℕ) : Type 0 where
 small : (m n : ℕ) → m ≤ start_square → n ≤ end_square → Small m n × Small n m
 small m n h k = (record { least = omega arith; most = omega arith }, record { least = omega arith; most = omega arith })
 
-sizes : (d : tie.After-square-of2) → Small d.before.before.square-of.result d.square-of2.result × Small d.square-of2.result d.before.before.square-of.result
+sizes : (d : tie.After-square_of-n) → Small d.square_of-m.result d.square_of-n.result × Small d.square_of-n.result d.square_of-m.result
 sizes d =
-    let p = d.before.before.before.before.before.before.before.requires in
-    small d.before.before.square-of.result d.square-of2.result (subst (λ (k : ℕ). k ≤ start_square) (sym (m_is d.before.before)) (start_square_lem p)) (subst (λ (k : ℕ). k ≤ end_square) (sym (n_is d)) (end_square_lem p))
+    let p = d.requires in
+    small d.square_of-m.result d.square_of-n.result (subst (λ (k : ℕ). k ≤ start_square) (sym (m_is d.before.before)) (start_square_lem p)) (subst (λ (k : ℕ). k ≤ end_square) (sym (n_is d)) (end_square_lem p))
 
-too_long_requires : tie.Need-too-long-requires
+too_long_requires : tie.Need-too_long-requires
 too_long_requires c κs = let k = sizes c.before.before in (k.0.least, k.0.most)
 
-too_long_requires_2 : tie.Need-too-long-requires-2
+too_long_requires_2 : tie.Need-too_long-requires-2
 too_long_requires_2 c κs = let k = sizes c.before.before.before in (k.1.least, k.1.most)
 
-returns_3 : tie.Need-returns-3
+returns_3 : tie.Need-returns
 returns_3 c =
-    let e = c.before.before in
-    let d = e.before.before in
-    let s = d.before.before.before.before.before.before.before in
-    let m = d.before.before.square-of.result in
-    let n = d.square-of2.result in
-    (λ i. c.before.too_long.ensures i || c.too-long2.ensures i)
-    ∙ (sym (neither m n e.before.if1.false e.if2.false) ∙ of_arc s.args.a m n (m_is d.before.before) (n_is d))
+    let e = c in
+    let d = e in
+    let s = d in
+    let m = d.square_of-m.result in
+    let n = d.square_of-n.result in
+    (λ i. c.too_long.ensures i || c.too_long-2.ensures i)
+    ∙ (sym (neither m n e.if-m-eq0.false e.if-n-eq0.false) ∙ of_arc s.args.a m n (m_is d.before.before.before.before.before.before) (n_is d.before.before.before.before))
 
 pub is_uneven_spec : {M : Type 1} → statement M
 is_uneven_spec =

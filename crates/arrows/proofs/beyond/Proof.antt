@@ -3,13 +3,13 @@ use Rattle.whole.proofs.Integers.{wide}
 use Rattle.arrows.proofs.beyond.Statement.{statement}
 use Rattle.arrows.proofs.beyond.Tie as tie
 
-cast_result : tie.Need-overflow-cast-result
+cast_result : tie.Need-overflow_cast-result
 cast_result c = search wide
 
-cast_result_2 : tie.Need-overflow-cast-result-2
+cast_result_2 : tie.Need-overflow_cast-result-2
 cast_result_2 c = search wide
 
-sub_result : tie.Need-overflow-sub-result
+sub_result : tie.Need-overflow_sub-result
 sub_result c = search wide
 
 returns : tie.Need-returns

@@ -21,27 +21,27 @@ product_requires_2 c κs = search rules
 fit : (a b : ℤ) → nat_abs a ≤ greatest_part * greatest_part → nat_abs b ≤ greatest_part * greatest_part → SFits w64 (a -ℤ b)
 fit a b h k = let x = abs a in let y = abs b in omega (whole, sub_in a b)
 
-first : (c : tie.After-product) → c.product.result ≡ c.before.before.before.args.a.right *ℤ c.before.before.before.args.b.up
+first : (c : tie.After-product) → c.product.result ≡ c.args.a.right *ℤ c.args.b.up
 first c = c.product.ensures.0 ∙ search rules
 
-second : (c : tie.After-product2) → c.product2.result ≡ c.before.before.before.before.before.before.args.a.up *ℤ c.before.before.before.before.before.before.args.b.right
-second c = c.product2.ensures.0 ∙ search rules
+second : (c : tie.After-product-2) → c.product-2.result ≡ c.args.a.up *ℤ c.args.b.right
+second c = c.product-2.ensures.0 ∙ search rules
 
-sub_result : tie.Need-overflow-sub-result
+sub_result : tie.Need-overflow_sub-result
 sub_result c =
-    let d = c.before.before.before in
-    let x : SFits w64 d.product.result = sfits_of d.product.type-inv in
-    let y : SFits w64 c.product2.result = sfits_of c.product2.type-inv in
-    dif_need (held x) (held y) (fit d.product.result c.product2.result d.product.ensures.1 c.product2.ensures.1)
+    let d = c in
+    let x : SFits w64 d.product.result = sfits_of d.product.type_inv in
+    let y : SFits w64 c.product-2.result = sfits_of c.product-2.type_inv in
+    dif_need (held x) (held y) (fit d.product.result c.product-2.result d.product.ensures.1 c.product-2.ensures.1)
 
 returns : tie.Need-returns
 unfolding cross
 returns c =
-    let d = c.before.before.before in
-    let x : SFits w64 d.product.result = sfits_of d.product.type-inv in
-    let y : SFits w64 c.product2.result = sfits_of c.product2.type-inv in
-    is (dif (held x) (held y) (fit d.product.result c.product2.result d.product.ensures.1 c.product2.ensures.1))
-    ∙ λ i. first d i -ℤ second c i
+    let d = c in
+    let x : SFits w64 d.product.result = sfits_of d.product.type_inv in
+    let y : SFits w64 c.product-2.result = sfits_of c.product-2.type_inv in
+    is (dif (held x) (held y) (fit d.product.result c.product-2.result d.product.ensures.1 c.product-2.ensures.1))
+    ∙ λ i. first d.before.before.before i -ℤ second c i
 
 pub cross_of_spec : {M : Type 1} → statement M
 cross_of_spec = tie.close (tie.spec product_requires product_requires_2 sub_result returns)

@@ -22,7 +22,7 @@ fit a b h k =
     let s = mul-le-mul h k in
     record { size = omega arith; whole64 = fits_abs (a *ℤ b) (omega arith) }
 
-mul_result : tie.Need-overflow-mul-result
+mul_result : tie.Need-overflow_mul-result
 mul_result c = prod_need (held c.ranges.a) (held c.ranges.b) (fit c.args.a c.args.b c.requires.0 c.requires.1).whole64
 
 returns : tie.Need-returns

@@ -16,21 +16,21 @@ squared_requires c κs = search rules
 squared_requires_2 : tie.Need-squared-requires-2
 squared_requires_2 c κs = search rules
 
-first : (c : tie.After-squared) → c.squared.result ≡ nat_abs c.before.before.args.a.right * nat_abs c.before.before.args.a.right
+first : (c : tie.After-squared) → c.squared.result ≡ nat_abs c.args.a.right * nat_abs c.args.a.right
 first c = c.squared.ensures ∙ search rules
 
-second : (c : tie.After-squared2) → c.squared2.result ≡ nat_abs c.before.before.before.before.args.a.up * nat_abs c.before.before.before.before.args.a.up
-second c = c.squared2.ensures ∙ search rules
+second : (c : tie.After-squared-2) → c.squared-2.result ≡ nat_abs c.args.a.up * nat_abs c.args.a.up
+second c = c.squared-2.ensures ∙ search rules
 
 fit : (a b : ℕ) → a ≤ greatest_part → b ≤ greatest_part → a * a + b * b < 2 ^ 64
 fit a b h k = omega (arith, mul-le-mul h h, mul-le-mul k k)
 
-add_result : tie.Need-overflow-add-result
+add_result : tie.Need-overflow_add-result
 add_result c =
-    let a = c.before.before.before.before.args.a in
+    let a = c.args.a in
     let e = first c.before.before in
     let f = second c in
-    let l = fit (nat_abs a.right) (nat_abs a.up) c.before.before.before.before.requires.right c.before.before.before.before.requires.up in
+    let l = fit (nat_abs a.right) (nat_abs a.up) c.requires.right c.requires.up in
     omega arith
 
 returns : tie.Need-returns

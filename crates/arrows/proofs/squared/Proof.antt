@@ -27,10 +27,10 @@ fit v h =
     let p = square_pos v in
     record { whole64 = fits_abs (v *ℤ v) (omega arith); natural = omega whole; size64 = omega arith }
 
-mul_result : tie.Need-overflow-mul-result
+mul_result : tie.Need-overflow_mul-result
 mul_result c = prod_need (held c.ranges.v) (held c.ranges.v) (fit c.args.v c.requires).whole64
 
-cast_result : tie.Need-overflow-cast-result
+cast_result : tie.Need-overflow_cast-result
 cast_result c =
     let f = fit c.args.v c.requires in
     size_need (prod (held c.ranges.v) (held c.ranges.v) f.whole64) w64 (f.natural, f.size64)

@@ -20,16 +20,16 @@ fit c =
     let d = sub_in b a in
     record { a64 = omega whole; b64 = omega whole; gap = omega whole; double = omega (whole, up_mul 2 (b -ℤ a), down_mul 2 (b -ℤ a)) }
 
-cast_result : tie.Need-overflow-cast-result
+cast_result : tie.Need-overflow_cast-result
 cast_result c = search wide
 
-cast_result_2 : tie.Need-overflow-cast-result-2
+cast_result_2 : tie.Need-overflow_cast-result-2
 cast_result_2 c = search wide
 
-sub_result : tie.Need-overflow-sub-result
+sub_result : tie.Need-overflow_sub-result
 sub_result c = search wide
 
-mul_result : tie.Need-overflow-mul-result
+mul_result : tie.Need-overflow_mul-result
 mul_result c =
     let f = fit c in
     prod_need (num w64 (pos 2) tt) (dif (cast (held c.ranges.to) w64 f.b64) (cast (held c.ranges.from) w64 f.a64) f.gap) f.double

@@ -9,21 +9,21 @@ use Rattle.asking.proofs.Judging.{cycle_wrong, cycle_right}
 use Rattle.asking.proofs.of_cycle.Statement.{statement}
 use Rattle.asking.proofs.of_cycle.Tie as tie
 
-is_right : (c : tie.Else1) → cycle.wrong c.before.before.before.args.c ≡ false
-is_right c = sym c.before.is-wrong.ensures ∙ c.if1.false
+is_right : (c : tie.Else-is_wrong) → cycle.wrong c.args.c ≡ false
+is_right c = sym c.is_wrong.ensures ∙ c.if-is_wrong.false
 
-returns : tie.Need-returns
+returns : tie.Need-returns-then-is_wrong
 returns c =
-    let w = c.before in
-    (cycle_wrong w.before.before.args.c w.before.before.args.l (sym w.is-wrong.ensures ∙ c.if1.true) w.before.least-feed.ensures, omega arith)
+    let w = c in
+    (cycle_wrong w.args.c w.args.l (sym w.is_wrong.ensures ∙ c.if-is_wrong.true) w.least_feed-least.ensures, omega arith)
 
-returns_2 : tie.Need-returns-2
+returns_2 : tie.Need-returns
 returns_2 c =
-    let e = c.before.before in
-    let w = e.before in
-    let s = w.before.before in (
-      cycle_right s.args.c s.args.l (is_right e) w.before.least-feed.ensures c.before.ends-outside.ensures c.record-count.ensures,
-      omega (arith, c.record-count.ensures, (lawful s.args.c (is_right e) s.requires).few),
+    let e = c in
+    let w = e in
+    let s = w in (
+      cycle_right s.args.c s.args.l (is_right e.before.before) w.least_feed-least.ensures c.ends_outside-outside.ensures c.record_count-count.ensures,
+      omega (arith, c.record_count-count.ensures, (lawful s.args.c (is_right e.before.before) s.requires).few),
     )
 
 pub of_cycle_spec : {M : Type 1} → statement M
@@ -33,6 +33,6 @@ of_cycle_spec =
     (λ c κs. search rules)
     (λ c κs. search rules)
     returns
-    (λ c κs. (is_right c, c.before.before.before.requires))
-    (λ c κs. (is_right c.before, c.before.before.before.before.requires))
+    (λ c κs. (is_right c, c.requires))
+    (λ c κs. (is_right c.before, c.requires))
     returns_2)

@@ -4,11 +4,11 @@ use borrow.Author.Rules.{rules}
 use Rattle.bites.proofs.has_zero.Statement.{statement}
 use Rattle.bites.proofs.has_zero.Tie as tie
 
-fall_requires : tie.Need-fall-requires
+fall_requires : tie.Need-fall-end-requires
 fall_requires c κs = search rules
 
 returns : tie.Need-returns
-returns c = sym c.before.fall.ensures.zero
+returns c = sym c.fall-end.ensures.zero
 
 pub has_zero_spec : {M : Type 1} → statement M
 has_zero_spec = tie.close (tie.spec fall_requires returns)

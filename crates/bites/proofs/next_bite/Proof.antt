@@ -11,23 +11,23 @@ use Rattle.bites.proofs.next_bite.Tie as tie
 small : (bite less : ℕ) → bite * (100 - less) ≤ 100 * bite
 small bite less = omega (arith, mul-le-mul_left {m = 100 - less} {n = 100} bite (omega arith))
 
-sub_part : tie.Need-overflow-sub-part
+sub_part : tie.Need-overflow_sub-part
 sub_part c = search rules
 
-cast_part : tie.Need-overflow-cast-part
+cast_part : tie.Need-overflow_cast-part-2
 cast_part c = search rules
 
-mul_part : tie.Need-overflow-mul-part
+mul_part : tie.Need-overflow_mul-part
 mul_part c = omega (arith, small c.args.bite c.args.less)
 
-cast_part_2 : tie.Need-overflow-cast-part-2
+cast_part_2 : tie.Need-overflow_cast-part-3
 cast_part_2 c = omega (arith, small c.args.bite c.args.less)
 
-returns : tie.Need-returns
+returns : tie.Need-returns-then-part-least
 unfolding next_bite
 returns c = omega arith
 
-returns_2 : tie.Need-returns-2
+returns_2 : tie.Need-returns
 unfolding next_bite
 returns_2 c = omega arith
 

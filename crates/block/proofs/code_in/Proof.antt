@@ -9,17 +9,17 @@ use borrow.Author.Rules.{rules}
 use Rattle.block.proofs.code_in.Statement.{statement}
 use Rattle.block.proofs.code_in.Tie as tie
 
-mul_magnitude : tie.Need-overflow-mul-magnitude
+mul_magnitude : tie.Need-offset_bounds-b-k
 mul_magnitude c = search rules
 
-element_copy_out_magnitude : tie.Need-element-copy-out-magnitude
+element_copy_out_magnitude : tie.Need-bounds-b-k
 element_copy_out_magnitude c = search rules
 
 magnitude_requires : tie.Need-magnitude-requires
 magnitude_requires c κs = search rules
 
 -- the value in the slot, as the machine reads it back from its bits
-value : (c : tie.After-magnitude) → to_z w32 (of_z w32 (get_or c.before.before.args.t1.value c.before.before.args.k (pos 0))) ≡ get_or c.before.before.args.t1.value c.before.before.args.k (pos 0)
+value : (c : tie.After-magnitude) → to_z w32 (of_z w32 (get_or c.args.b.value c.args.k (pos 0))) ≡ get_or c.args.b.value c.args.k (pos 0)
 value c = search rules
 
 returns : tie.Need-returns

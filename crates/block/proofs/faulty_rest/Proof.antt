@@ -5,7 +5,7 @@ use borrow.Author.Rules.{rules}
 use Rattle.block.proofs.faulty_rest.Statement.{statement}
 use Rattle.block.proofs.faulty_rest.Tie as tie
 
-no_words_requires : tie.Need-no-words-requires
+no_words_requires : tie.Need-no_words-requires
 no_words_requires c κs = search rules
 
 returns : tie.Need-returns

@@ -9,21 +9,21 @@ use Rattle.block.proofs.g_in.Tie as tie
 has_requires : tie.Need-has-requires
 has_requires c κs = search rules
 
-code_in_requires : tie.Need-code-in-requires
+code_in_requires : tie.Need-code_in-n-requires
 code_in_requires c κs = search rules
 
-g_code_requires : tie.Need-g-code-requires
+g_code_requires : tie.Need-g_code-requires
 g_code_requires c κs = search rules
 
-returns : tie.Need-returns
+returns : tie.Need-returns-then-has
 unfolding g_in
 returns c =
-    let h = c.before.before in
-    rw (sym h.before.has.ensures ∙ h.if1.true) (c.g-code.ensures ∙ ap g_code c.before.Code-in.ensures)
+    let h = c in
+    rw (sym h.has.ensures ∙ h.if-has.true) (c.g_code.ensures ∙ ap g_code c.code_in-n.ensures)
 
-returns_2 : tie.Need-returns-2
+returns_2 : tie.Need-returns
 unfolding g_in
-returns_2 c = rw (sym c.before.has.ensures ∙ c.if1.false)
+returns_2 c = rw (sym c.has.ensures ∙ c.if-has.false)
 
 pub g_in_spec : {M : Type 1} → statement M
 g_in_spec =

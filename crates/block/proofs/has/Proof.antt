@@ -5,7 +5,7 @@ use borrow.Author.Rules.{rules}
 use Rattle.block.proofs.has.Statement.{statement}
 use Rattle.block.proofs.has.Tie as tie
 
-element_copy_out_result : tie.Need-element-copy-out-result
+element_copy_out_result : tie.Need-bounds-b-k
 element_copy_out_result c = search rules
 
 returns : tie.Need-returns

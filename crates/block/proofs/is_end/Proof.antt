@@ -13,29 +13,29 @@ use Rattle.block.proofs.is_end.Statement.{statement}
 use Rattle.block.proofs.is_end.Tie as tie
 
 -- the word's number, as the machine reads it back from its bits
-same_value : (c : tie.After-struct-told) → to_z w32 (of_z w32 c.before.before.before.args.w.value) ≡ c.before.before.before.args.w.value
+same_value : (c : tie.After-struct_told-1) → to_z w32 (of_z w32 c.args.w.value) ≡ c.args.w.value
 same_value c = search rules
 
-magnitude_requires : tie.Need-magnitude-requires
+magnitude_requires : tie.Need-magnitude-n-requires
 magnitude_requires c κs = search rules
 
-m_code_requires : tie.Need-m-code-requires
+m_code_requires : tie.Need-m_code-requires
 m_code_requires c κs = search rules
 
-ends_by_requires : tie.Need-ends-by-requires
+ends_by_requires : tie.Need-ends_by-requires
 ends_by_requires c κs = search rules
 
-returns : tie.Need-returns
+returns : tie.Need-returns-then-w-eq77
 unfolding is_end
 returns c =
-    let m = c.before.before in
-    let h = m.before.before in
-    rw (eq-eqb h.before.before.args.w.address letter_m h.if1.true)
-    (c.ends_by.ensures ∙ ap ends_by (c.before.m-code.ensures ∙ ap m_code (m.magnitude.ensures ∙ ap nat_abs (same_value m.before))))
+    let m = c in
+    let h = m in
+    rw (eq-eqb h.args.w.address letter_m h.if-w-eq77.true)
+    (c.ends_by.ensures ∙ ap ends_by (c.m_code.ensures ∙ ap m_code (m.magnitude-n.ensures ∙ ap nat_abs (same_value m.before.before.before))))
 
-returns_2 : tie.Need-returns-2
+returns_2 : tie.Need-returns
 unfolding is_end
-returns_2 c = rw (ne_eqb c.before.before.args.w.address letter_m c.if1.false)
+returns_2 c = rw (ne_eqb c.args.w.address letter_m c.if-w-eq77.false)
 
 pub is_end_spec : {M : Type 1} → statement M
 is_end_spec =

@@ -18,34 +18,34 @@ line_by_lem : (s : List ℕ) {n : NextWord} → next_word s 0 ≡ n → line_by 
 unfolding line_of
 line_by_lem s e = ap (line_by s) (sym e)
 
-read_rest_requires : tie.Need-read-rest-requires
+read_rest_requires : tie.Need-read_rest-rest-requires
 read_rest_requires c κs =
-    let x = c.before in
-    let n = x.before.before in
-    let s = n.before.before in
-    ((subst (λ (t : NextWord). NextIn t 0 (length s.args.line.now)) x.next.given.1 n.next_word.ensures.1).1, s.requires)
+    let x = c in
+    let n = x in
+    let s = n in
+    ((subst (λ (t : NextWord). NextIn t 0 (length s.args.line.now)) x.in-Word.is n.next_word-next.ensures.1).1, s.requires)
 
-returns : tie.Need-returns
+returns : tie.Need-returns-in-Fault
 unfolding faulty_rest
 returns c =
-    let n = c.before.before.before in
+    let n = c in
     (λ i. reading Blank (record { block = c.no_words.ensures i; faulty = true }))
-    ∙ line_by_lem n.before.before.args.line.now (sym n.next_word.ensures.0 ∙ c.before.enum_told.given.1)
+    ∙ line_by_lem n.args.line.now (sym n.next_word-next.ensures.0 ∙ c.in-Fault.is)
 
-returns_2 : tie.Need-returns-2
+returns_2 : tie.Need-returns-in-End
 unfolding gather
 returns_2 c =
-    let n = c.before.before.before in
-    (λ i. reading Blank (record { block = c.no-words2.ensures i; faulty = false }))
-    ∙ line_by_lem n.before.before.args.line.now (sym n.next_word.ensures.0 ∙ c.before.enum-told2.given.1)
+    let n = c in
+    (λ i. reading Blank (record { block = c.no_words-in-End.ensures i; faulty = false }))
+    ∙ line_by_lem n.args.line.now (sym n.next_word-next.ensures.0 ∙ c.in-End.is)
 
-returns_3 : tie.Need-returns-3
+returns_3 : tie.Need-returns-in-Word
 returns_3 c =
-    let r = c.before.before in
-    let x = r.before.before in
-    let n = x.before.before in
-    (λ i. reading (c.head-by.ensures i) (r.read-rest.ensures i))
-    ∙ line_by_lem n.before.before.args.line.now (sym n.next_word.ensures.0 ∙ x.next.given.1)
+    let r = c in
+    let x = r in
+    let n = x in
+    (λ i. reading (c.head_by.ensures i) (r.read_rest-rest.ensures i))
+    ∙ line_by_lem n.args.line.now (sym n.next_word-next.ensures.0 ∙ x.in-Word.is)
 
 pub read_line_spec : {M : Type 1} → statement M
 read_line_spec =

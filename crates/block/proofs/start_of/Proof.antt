@@ -10,21 +10,21 @@ use borrow.Author.Rules.{rules}
 use Rattle.block.proofs.start_of.Statement.{statement}
 use Rattle.block.proofs.start_of.Tie as tie
 
-returns : tie.Need-returns
+returns : tie.Need-returns-in-Fault
 unfolding start_of
-returns c = (ap start_by (sym c.enum_told.given.1 ∙ c.before.before.next_word.ensures.0), tt)
+returns c = (ap start_by (sym c.in-Fault.is ∙ c.next_word-next.ensures.0), tt)
 
-returns_2 : tie.Need-returns-2
+returns_2 : tie.Need-returns-in-End
 unfolding start_of
-returns_2 c = (ap start_by (sym c.enum-told2.given.1 ∙ c.before.before.next_word.ensures.0), tt)
+returns_2 c = (ap start_by (sym c.in-End.is ∙ c.next_word-next.ensures.0), tt)
 
-returns_3 : tie.Need-returns-3
+returns_3 : tie.Need-returns-in-Word
 unfolding start_of
 returns_3 c =
-    let x = c.before.before in
-    let n = x.before.before in (
-      ap (λ (h : Head). With h x.next.given.0.1.0) c.head-by.ensures ∙ ap start_by (sym x.next.given.1 ∙ n.next_word.ensures.0),
-      (subst (λ (t : NextWord). NextIn t 0 (length n.before.before.args.line.now)) x.next.given.1 n.next_word.ensures.1).1,
+    let x = c in
+    let n = x in (
+      ap (λ (h : Head). With h x.in-Word.end) c.head_by.ensures ∙ ap start_by (sym x.in-Word.is ∙ n.next_word-next.ensures.0),
+      (subst (λ (t : NextWord). NextIn t 0 (length n.args.line.now)) x.in-Word.is n.next_word-next.ensures.1).1,
     )
 
 pub start_of_spec : {M : Type 1} → statement M

@@ -21,22 +21,22 @@ held s = record { start = search rules; target = search rules }
 far : (s : tie.Start) → stroke_of s.args.c.bore < 4_294_967_296
 far s = stroke_fits s.args.c.bore (held s).start (held s).target
 
-after_bite_requires : tie.Need-after-bite-requires
+after_bite_requires : tie.Need-after_bite-stage-requires
 after_bite_requires c κs = search rules
 
-add_deep : tie.Need-overflow-add-deep
-add_deep c = let s = c.before.before.before in omega (arith, far s, s.requires.0.whole, s.requires.1)
+add_deep : tie.Need-overflow_add-deep
+add_deep c = let s = c in omega (arith, far s.before.before.before, s.requires.0.whole, s.requires.1)
 
-next_bite_requires : tie.Need-next-bite-requires
+next_bite_requires : tie.Need-next_bite-bite-requires
 next_bite_requires c κs = search rules
 
-sub_left : tie.Need-overflow-sub-left
+sub_left : tie.Need-overflow_sub-left
 sub_left c = search rules
 
 returns : tie.Need-returns
 returns c =
-    let p = c.before.before.before.before.before.args.c in
-    λ i. record { bore = p.bore; stage = c.before.before.before.after-bite.ensures i; deep = p.deep + p.bite; bite = c.before.next-bite.ensures i; left = p.left - p.bite }
+    let p = c.args.c in
+    λ i. record { bore = p.bore; stage = c.after_bite-stage.ensures i; deep = p.deep + p.bite; bite = c.next_bite-bite.ensures i; left = p.left - p.bite }
 
 pub bite_off_spec : {M : Type 1} → statement M
 bite_off_spec = tie.close (tie.spec after_bite_requires add_deep next_bite_requires sub_left returns)

@@ -20,8 +20,8 @@ dwell_requires c κs = search rules
 
 returns : tie.Need-returns
 returns c =
-    let s = c.before.before.before in
-    c.dwell.ensures ∙ (λ i. dwell (to_z-of_z (x_held s) i) (to_z-of_z (target_held s) i) s.args.b.dwell)
+    let s = c in
+    c.dwell.ensures ∙ (λ i. dwell (to_z-of_z (x_held s.before.before.before) i) (to_z-of_z (target_held s.before.before.before) i) s.args.b.dwell)
 
 pub dwell_of_spec : {M : Type 1} → statement M
 dwell_of_spec = tie.close (tie.spec dwell_requires returns)

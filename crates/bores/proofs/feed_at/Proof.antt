@@ -12,7 +12,7 @@ use Rattle.bores.proofs.feed_at.Tie as tie
 x_held : (s : tie.Start) → SFits w32 s.args.b.x
 x_held s = search rules
 
-deep_at_requires : tie.Need-deep-at-requires
+deep_at_requires : tie.Need-deep_at-to-requires
 deep_at_requires c κs = search rules
 
 feed_requires : tie.Need-feed-requires
@@ -20,11 +20,11 @@ feed_requires c κs = search rules
 
 returns : tie.Need-returns
 returns c =
-    let d = c.before.before in
-    let s = d.before in
+    let d = c in
+    let s = d in
     let b = s.args.b in
-    let z = to_z-of_z (sfits_of {w = w32} d.deep-at.type-inv) ∙ d.deep-at.ensures in
-    c.feed.ensures ∙ (λ i. feed (to_z-of_z (x_held s) i) (z i) b.f b.g95)
+    let z = to_z-of_z (sfits_of {w = w32} d.deep_at-to.type_inv) ∙ d.deep_at-to.ensures in
+    c.feed.ensures ∙ (λ i. feed (to_z-of_z (x_held s.before.before.before) i) (z i) b.f b.g95)
 
 pub feed_at_spec : {M : Type 1} → statement M
 feed_at_spec = tie.close (tie.spec deep_at_requires feed_requires returns)

@@ -8,9 +8,9 @@ use Rattle.bores.proofs.next.Statement.{statement}
 use Rattle.bores.proofs.next.Tie as tie
 
 -- nothing is left: no caller comes here
-go_out_requires_2 : tie.Need-go-out-requires-2
+go_out_requires_2 : tie.Need-go_out-requires-in-Over
 go_out_requires_2 c κs =
-    let s = c.before.before in
+    let s = c in
     let e : s.args.c.stage ≡ Over = search rules in
     absurd (never (sym s.requires.1 ∙ ap over_at e))
 

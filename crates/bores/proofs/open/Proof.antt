@@ -11,18 +11,18 @@ use borrow.Author.Rules.{rules}
 use Rattle.bores.proofs.open.Statement.{statement}
 use Rattle.bores.proofs.open.Tie as tie
 
-stroke_of_requires : tie.Need-stroke-of-requires
+stroke_of_requires : tie.Need-stroke_of-stroke-requires
 stroke_of_requires c κs = search rules
 
-first_bite_requires : tie.Need-first-bite-requires
+first_bite_requires : tie.Need-first_bite-bite-requires
 first_bite_requires c κs = search rules
 
 returns : tie.Need-returns
 returns c =
-    let s = c.before.before in
+    let s = c in
     let b = s.args.b in
-    let n = c.before.stroke-of.ensures in
-    let bite = c.first-bite.ensures ∙ (λ i. cond (eqb b.first 0) (n i) b.first) in
+    let n = c.stroke_of-stroke.ensures in
+    let bite = c.first_bite-bite.ensures ∙ (λ i. cond (eqb b.first 0) (n i) b.first) in
     subst (λ (k : Cursor). (rest_of k ≡ drilling b) × Sound k) (sym (λ i. record { bore = b; stage = Bite; deep = 0; bite = bite i; left = n i }))
     (opens_with b s.requires, opens_sound b s.requires)
 

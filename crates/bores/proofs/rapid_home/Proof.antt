@@ -20,8 +20,8 @@ rapid_requires c κs = search rules
 
 returns : tie.Need-returns
 returns c =
-    let s = c.before.before.before in
-    c.rapid.ensures ∙ (λ i. rapid (to_z-of_z (x_held s) i) (to_z-of_z (start_held s) i))
+    let s = c in
+    c.rapid.ensures ∙ (λ i. rapid (to_z-of_z (x_held s.before.before.before) i) (to_z-of_z (start_held s.before.before.before) i))
 
 pub rapid_home_spec : {M : Type 1} → statement M
 rapid_home_spec = tie.close (tie.spec rapid_requires returns)

@@ -21,16 +21,16 @@ held s = record { start = search rules; target = search rules }
 far : (s : tie.Start) → stroke_of s.args.c.bore < 4_294_967_296
 far s = stroke_fits s.args.c.bore (held s).start (held s).target
 
-after_last_requires : tie.Need-after-last-requires
+after_last_requires : tie.Need-after_last-stage-requires
 after_last_requires c κs = search rules
 
-add_deep : tie.Need-overflow-add-deep
-add_deep c = let s = c.before.before.before in omega (arith, far s, s.requires.whole)
+add_deep : tie.Need-overflow_add-deep
+add_deep c = let s = c in omega (arith, far s.before.before.before, s.requires.whole)
 
 returns : tie.Need-returns
 returns c =
-    let p = c.before.before.before.args.c in
-    λ i. record { bore = p.bore; stage = c.before.after_last.ensures i; deep = p.deep + p.left; bite = p.bite; left = 0 }
+    let p = c.args.c in
+    λ i. record { bore = p.bore; stage = c.after_last-stage.ensures i; deep = p.deep + p.left; bite = p.bite; left = 0 }
 
 pub reach_bottom_spec : {M : Type 1} → statement M
 reach_bottom_spec = tie.close (tie.spec after_last_requires add_deep returns)

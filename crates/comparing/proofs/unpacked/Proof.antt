@@ -4,7 +4,7 @@ use borrow.Author.Tests.{ne_eqb}
 use mathlib.Core.Path.{ap, sym}
 use mathlib.Core.Bool.{Bool, cond}
 use Prim.Native.Nat.{ℕ}
-use Rattle.answers.specs.declared.Answer.TheVariants.{Complete, Alarm}
+use Rattle.listing.specs.of_answers.declared.Answer.TheVariants.{Complete, Alarm}
 use Rattle.comparing.specs.Door.{alarm_told, place_told, count_told, told_by}
 use Rattle.comparing.proofs.unpacked.Statement.{statement}
 use Rattle.comparing.proofs.unpacked.Tie as tie

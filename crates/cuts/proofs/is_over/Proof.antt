@@ -5,17 +5,17 @@ use Rattle.cuts.specs.Cuts.{over}
 use Rattle.cuts.proofs.is_over.Statement.{statement}
 use Rattle.cuts.proofs.is_over.Tie as tie
 
-returns : tie.Need-returns
+returns : tie.Need-returns-in-Even
 unfolding over
-returns c = sym (ap over c.before.before.c.given.1)
+returns c = sym (ap over c.in-Even.is)
 
-returns_2 : tie.Need-returns-2
+returns_2 : tie.Need-returns-in-ByDepth
 unfolding over
-returns_2 c = sym (ap over c.before.before.c2.given.1)
+returns_2 c = sym (ap over c.in-ByDepth.is)
 
-returns_3 : tie.Need-returns-3
+returns_3 : tie.Need-returns-in-ByNumber
 unfolding over
-returns_3 c = sym (ap over c.before.before.c3.given.1)
+returns_3 c = sym (ap over c.in-ByNumber.is)
 
 pub is_over_spec : {M : Type 1} → statement M
 is_over_spec =

@@ -8,6 +8,6 @@ pub one_more_spec : {M : Type 1} → statement M
 one_more_spec =
     tie.close
     (tie.spec
-    (λ c. let s = c.before in let h = sum_fits s.args.f s.requires.0 s.requires.1 in search rules)
+    (λ c. let s = c in let h = sum_fits s.args.f s.requires.0 s.requires.1 in search rules)
     (λ c. search rules)
     (λ c. search rules))

@@ -10,17 +10,17 @@ record_count_spec =
     tie.close
     (tie.spec
     (λ c. search rules)
-    (λ c κs. right c.before.c.given.1 c.before.before.before.requires.0)
+    (λ c κs. right c.in-Turning.is c.requires.0)
     (λ c. search rules)
-    (λ c κs. let is = c.before.c2.given.1 in let h = c.before.before.before.requires in ((known is h.1).3, right is h.0))
+    (λ c κs. let is = c.in-Threading.is in let h = c.requires in ((known is h.1).3, right is h.0))
     (λ c. search rules)
     (λ c κs.
-    let is = c.before.c3.given.1 in
-    let n = known is c.before.before.before.requires.1 in
-    (right is c.before.before.before.requires.0, n.4, n.5))
+    let is = c.in-Grooving.is in
+    let n = known is c.requires.1 in
+    (right is c.requires.0, n.4, n.5))
     (λ c. search rules)
-    (λ c κs. right c.before.c4.given.1 c.before.before.before.requires.0)
-    (λ c. c.record-count.ensures ∙ counts c.before.before.c.given.1)
-    (λ c. c.record-count2.ensures ∙ counts c.before.before.c2.given.1)
-    (λ c. c.record-count3.ensures ∙ counts c.before.before.c3.given.1)
-    (λ c. c.record-count4.ensures ∙ counts c.before.before.c4.given.1))
+    (λ c κs. right c.in-Drilling.is c.requires.0)
+    (λ c. c.record_count.ensures ∙ counts c.in-Turning.is)
+    (λ c. c.record_count-in-Threading.ensures ∙ counts c.in-Threading.is)
+    (λ c. c.record_count-in-Grooving.ensures ∙ counts c.in-Grooving.is)
+    (λ c. c.record_count-in-Drilling.ensures ∙ counts c.in-Drilling.is))

@@ -8,17 +8,17 @@ use Rattle.decimal.proofs.Writing.{wrote_as}
 use Rattle.decimal.proofs.put_decimal.Statement.{statement}
 use Rattle.decimal.proofs.put_decimal.Tie as tie
 
-put_byte_requires : tie.Need-put-byte-requires
-put_byte_requires c κs = let s = c.before.before.before in omega (arith, ap length (decimal_zero s.args.n c.before.if1.true))
+put_byte_requires : tie.Need-put_byte-requires
+put_byte_requires c κs = let s = c in omega (arith, ap length (decimal_zero s.args.n c.if-n-eq0.true))
 
-returns : tie.Need-returns
-returns c = let b = c.before.before in wrote_as (sym (decimal_zero _ b.before.before.if1.true)) b.put_byte.ensures
+returns : tie.Need-returns-then-n-eq0
+returns c = let b = c in wrote_as (sym (decimal_zero _ b.if-n-eq0.true)) b.put_byte.ensures
 
-put_digits_requires : tie.Need-put-digits-requires
-put_digits_requires c κs = let s = c.before.before.before in omega (arith, ap length (decimal_more s.args.n (omega arith)))
+put_digits_requires : tie.Need-put_digits-requires
+put_digits_requires c κs = let s = c in omega (arith, ap length (decimal_more s.args.n (omega arith)))
 
-returns_2 : tie.Need-returns-2
-returns_2 c = let d = c.before.before in wrote_as (sym (decimal_more _ (omega arith))) d.put-digits.ensures
+returns_2 : tie.Need-returns
+returns_2 c = let d = c in wrote_as (sym (decimal_more _ (omega arith))) d.put_digits.ensures
 
 pub put_decimal_spec : {M : Type 1} → statement M
 put_decimal_spec =

@@ -9,28 +9,28 @@ use borrow.Author.Rules.{rules}
 use Rattle.deeds.proofs.deed_of.Statement.{statement}
 use Rattle.deeds.proofs.deed_of.Tie as tie
 
-returns : tie.Need-returns
+returns : tie.Need-returns-then-has_path-has_centre
 unfolding deed_of
 returns c =
-    let h = c.before in
-    let t = h.before.before in
-    let a = t.before.before.args in
-    given Nothing (λ i. h.before.has-path.ensures i || h.has-centre.ensures i) c.if1.true refl ∙ deed_by a.b a.s t.enum_told.given.1
+    let h = c in
+    let t = h in
+    let a = t.args in
+    given Nothing (λ i. h.has_path.ensures i || h.has_centre.ensures i) c.if-has_path-has_centre.true refl ∙ deed_by a.b a.s t.in-Nothing.is
 
-returns_2 : tie.Need-returns-2
+returns_2 : tie.Need-returns-in-Of
 unfolding deed_of
 returns_2 c =
-    let m = c.before.before in
-    let a = m.before.before.args in
-    c.move-of.ensures ∙ deed_by a.b a.s m.motion.given.1
+    let m = c in
+    let a = m.args in
+    c.move_of.ensures ∙ deed_by a.b a.s m.in-Of.is
 
-returns_3 : tie.Need-returns-3
+returns_3 : tie.Need-returns-else-has_path-has_centre
 unfolding deed_of
 returns_3 c =
-    let h = c.before in
-    let t = h.before.before in
-    let a = t.before.before.args in
-    stays Nowhere Nothing (λ i. h.before.has-path.ensures i || h.has-centre.ensures i) c.if1.false ∙ deed_by a.b a.s t.enum_told.given.1
+    let h = c in
+    let t = h in
+    let a = t.args in
+    stays Nowhere Nothing (λ i. h.has_path.ensures i || h.has_centre.ensures i) c.if-has_path-has_centre.false ∙ deed_by a.b a.s t.in-Nothing.is
 
 pub deed_of_spec : {M : Type 1} → statement M
 deed_of_spec =

@@ -13,7 +13,7 @@ has_requires_2 c κs = search rules
 
 returns : tie.Need-returns
 unfolding has_centre
-returns c = λ i. c.before.has.ensures i || c.has2.ensures i
+returns c = λ i. c.has.ensures i || c.has-2.ensures i
 
 pub has_centre_spec : {M : Type 1} → statement M
 has_centre_spec = tie.close (tie.spec has_requires has_requires_2 returns)

@@ -20,8 +20,8 @@ has_requires_4 c κs = search rules
 returns : tie.Need-returns
 unfolding has_path
 returns c =
-    let x = c.before.before in
-    λ i. (x.before.has.ensures i || x.has2.ensures i) || (c.before.has3.ensures i || c.has4.ensures i)
+    let x = c in
+    λ i. (x.has.ensures i || x.has-2.ensures i) || (c.has-3.ensures i || c.has-4.ensures i)
 
 pub has_path_spec : {M : Type 1} → statement M
 has_path_spec =

@@ -25,83 +25,83 @@ x_target c = search rules
 z_target : (c : tie.Start) → to_z w32 (of_z w32 c.args.s.z_target) ≡ c.args.s.z_target
 z_target c = search rules
 
-returns : tie.Need-returns
+returns : tie.Need-returns-in-Rapid
 unfolding move_of
 returns c =
-    let r = c.before in
-    let t = r.before.before.before in
-    let s = t.before.before in
-    let goes = r.rapid.ensures ∙ (λ i. rapid (x_target s i) (z_target s i)) in
-    c.straight-if.ensures ∙ (λ i. straight_if s.args.b true 0 (goes i)) ∙ move_by s.args.b s.args.s t.enum_told.given.1
+    let r = c in
+    let t = r in
+    let s = t in
+    let goes = r.rapid.ensures ∙ (λ i. rapid (x_target s.before.before.before.before.before i) (z_target s.before.before.before.before.before i)) in
+    c.straight_if.ensures ∙ (λ i. straight_if s.args.b true 0 (goes i)) ∙ move_by s.args.b s.args.s t.in-Rapid.is
 
-returns_2 : tie.Need-returns-2
+returns_2 : tie.Need-returns-in-Feed
 unfolding move_of
 returns_2 c =
-    let r = c.before in
-    let t = r.before.before.before in
-    let s = t.before.before in
-    let goes = r.feed.ensures ∙ (λ i. feed (x_target s i) (z_target s i) s.args.s.f s.args.s.g95) in
-    c.straight-if2.ensures ∙ (λ i. straight_if s.args.b false 1 (goes i)) ∙ move_by s.args.b s.args.s t.enum-told2.given.1
+    let r = c in
+    let t = r in
+    let s = t in
+    let goes = r.feed.ensures ∙ (λ i. feed (x_target s.before.before.before.before.before i) (z_target s.before.before.before.before.before i) s.args.s.f s.args.s.g95) in
+    c.straight_if-in-Feed.ensures ∙ (λ i. straight_if s.args.b false 1 (goes i)) ∙ move_by s.args.b s.args.s t.in-Feed.is
 
-returns_3 : tie.Need-returns-3
+returns_3 : tie.Need-returns-in-Clockwise
 unfolding move_of
 returns_3 c =
-    let a = c.before.before.before.args in
-    c.round-if.ensures ∙ move_by a.b a.s c.before.enum-told3.given.1
+    let a = c.args in
+    c.round_if.ensures ∙ move_by a.b a.s c.in-Clockwise.is
 
-returns_4 : tie.Need-returns-4
+returns_4 : tie.Need-returns-in-Counterclockwise
 unfolding move_of
 returns_4 c =
-    let a = c.before.before.before.args in
-    c.round-if2.ensures ∙ move_by a.b a.s c.before.enum-told4.given.1
+    let a = c.args in
+    c.round_if-in-Counterclockwise.ensures ∙ move_by a.b a.s c.in-Counterclockwise.is
 
-returns_5 : tie.Need-returns-5
+returns_5 : tie.Need-returns-in-Thread
 unfolding move_of
 returns_5 c =
-    let r = c.before in
-    let t = r.before.before.before in
-    let s = t.before.before in
-    let goes = r.thread.ensures ∙ (λ i. thread (x_target s i) (z_target s i) s.args.s.f) in
-    c.straight-if3.ensures ∙ (λ i. straight_if s.args.b false 10 (goes i)) ∙ move_by s.args.b s.args.s t.enum-told5.given.1
+    let r = c in
+    let t = r in
+    let s = t in
+    let goes = r.thread.ensures ∙ (λ i. thread (x_target s.before.before.before.before.before i) (z_target s.before.before.before.before.before i) s.args.s.f) in
+    c.straight_if-in-Thread.ensures ∙ (λ i. straight_if s.args.b false 10 (goes i)) ∙ move_by s.args.b s.args.s t.in-Thread.is
 
-returns_6 : tie.Need-returns-6
+returns_6 : tie.Need-returns-in-Dwell
 unfolding move_of
 returns_6 c =
-    let w = c.before.before.before in
-    let t = w.before in
-    let s = t.before.before in
-    let goes = c.dwell.ensures ∙ (λ i. dwell (x s i) (z s i) (w.d-word.ensures.0 i)) in
-    ap Dwell goes ∙ move_by s.args.b s.args.s t.enum-told6.given.1
+    let w = c in
+    let t = w in
+    let s = t in
+    let goes = c.dwell.ensures ∙ (λ i. dwell (x s.before.before.before.before.before i) (z s.before.before.before.before.before i) (w.d_word.ensures.0 i)) in
+    ap Dwell goes ∙ move_by s.args.b s.args.s t.in-Dwell.is
 
-returns_7 : tie.Need-returns-7
+returns_7 : tie.Need-returns-in-Turning
 unfolding move_of
 returns_7 c =
-    let a = c.before.before.before.args in
-    (λ i. Cycle (Turning (c.turning-of.ensures i))) ∙ move_by a.b a.s c.before.enum-told7.given.1
+    let a = c.args in
+    (λ i. Cycle (Turning (c.turning_of.ensures i))) ∙ move_by a.b a.s c.in-Turning.is
 
-returns_8 : tie.Need-returns-8
+returns_8 : tie.Need-returns-in-Threading
 unfolding move_of
 returns_8 c =
-    let a = c.before.before.before.args in
-    (λ i. Cycle (Threading (c.thread-of.ensures i))) ∙ move_by a.b a.s c.before.enum-told8.given.1
+    let a = c.args in
+    (λ i. Cycle (Threading (c.thread_of.ensures i))) ∙ move_by a.b a.s c.in-Threading.is
 
-returns_9 : tie.Need-returns-9
+returns_9 : tie.Need-returns-in-Grooving
 unfolding move_of
 returns_9 c =
-    let a = c.before.before.before.args in
-    (λ i. Cycle (Grooving (c.groove-of.ensures i))) ∙ move_by a.b a.s c.before.enum-told9.given.1
+    let a = c.args in
+    (λ i. Cycle (Grooving (c.groove_of.ensures i))) ∙ move_by a.b a.s c.in-Grooving.is
 
-returns_10 : tie.Need-returns-10
+returns_10 : tie.Need-returns-in-ChipBreaking
 unfolding move_of
 returns_10 c =
-    let a = c.before.before.before.args in
-    (λ i. Cycle (Drilling (c.bore-of.ensures i))) ∙ move_by a.b a.s c.before.enum-told10.given.1
+    let a = c.args in
+    (λ i. Cycle (Drilling (c.bore_of.ensures i))) ∙ move_by a.b a.s c.in-ChipBreaking.is
 
-returns_11 : tie.Need-returns-11
+returns_11 : tie.Need-returns-in-Redrawing
 unfolding move_of
 returns_11 c =
-    let a = c.before.before.before.args in
-    (λ i. Cycle (Drilling (c.bore-of2.ensures i))) ∙ move_by a.b a.s c.before.enum-told11.given.1
+    let a = c.args in
+    (λ i. Cycle (Drilling (c.bore_of-in-Redrawing.ensures i))) ∙ move_by a.b a.s c.in-Redrawing.is
 
 pub move_of_spec : {M : Type 1} → statement M
 move_of_spec =

@@ -29,25 +29,25 @@ fits {w} h = let k = in_range w h in omega (whole, k.low, k.high)
 back : {w : ℤ} → in_table w ≡ true → to_z w32 (of_z w32 w) ≡ w
 back h = to_z-of_z (fits h)
 
-element_copy_out_t10 : tie.Need-element-copy-out-t10
+element_copy_out_t10 : tie.Need-bounds-b-4
 element_copy_out_t10 c = search rules
 
-element_copy_out_t13 : tie.Need-element-copy-out-t13
+element_copy_out_t13 : tie.Need-bounds-b-5
 element_copy_out_t13 c = search rules
 
-arc_of_requires : tie.Need-arc-of-requires
+arc_of_requires : tie.Need-arc_of-requires
 arc_of_requires c κs = search rules
 
 returns : tie.Need-returns
 unfolding round_of
 returns c =
-    let s = c.before.before.before.before.before in
+    let s = c in
     let a = s.args in
     let p = s.requires in
     let arc =
-    c.arc-of.ensures
+    c.arc_of.ensures
     ∙ (λ i.
-    arc_of a.clockwise (record { x = back p.x i; z = back p.z i }) (record { x = to_z-of_z (x_target s) i; z = to_z-of_z (z_target s) i })
+    arc_of a.clockwise (record { x = back p.x i; z = back p.z i }) (record { x = to_z-of_z (x_target s.before.before.before.before.before) i; z = to_z-of_z (z_target s.before.before.before.before.before) i })
     (record { i = back p.i i; k = back p.k i })) in
     λ i. record { arc = arc i; f = a.s.f; g95 = a.s.g95 }
 

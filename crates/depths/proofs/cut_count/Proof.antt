@@ -11,20 +11,20 @@ use Rattle.depths.proofs.cut_count.Tie as tie
 of_rule : (s : tie.Start) {r : Rule} {n : ℕ} → s.args.rule ≡ r → n ≡ cut_count r s.args.d3 s.args.d6 → n ≡ cut_count s.args.rule s.args.d3 s.args.d6
 of_rule s e h = h ∙ ap (λ (r : Rule). cut_count r s.args.d3 s.args.d6) (sym e)
 
-returns : tie.Need-returns
+returns : tie.Need-returns-in-EvenDepth
 unfolding cut_count
-returns c = of_rule c.before.before.before c.before.enum_told.given.1 c.piece-count.ensures
+returns c = of_rule c.before.before c.in-EvenDepth.is c.piece_count.ensures
 
-returns_2 : tie.Need-returns-2
+returns_2 : tie.Need-returns-in-EvenNumber
 unfolding cut_count
-returns_2 c = ap (λ (r : Rule). cut_count r c.before.before.args.d3 c.before.before.args.d6) (sym c.enum-told2.given.1)
+returns_2 c = ap (λ (r : Rule). cut_count r c.args.d3 c.args.d6) (sym c.in-EvenNumber.is)
 
-returns_3 : tie.Need-returns-3
-returns_3 c = of_rule c.before.before.before c.before.enum-told3.given.1 c.squares-in.ensures
+returns_3 : tie.Need-returns-in-FallingDepth
+returns_3 c = of_rule c.before.before c.in-FallingDepth.is c.squares_in.ensures
 
-returns_4 : tie.Need-returns-4
+returns_4 : tie.Need-returns-in-FallingNumber
 unfolding cut_count
-returns_4 c = ap (λ (r : Rule). cut_count r c.before.before.args.d3 c.before.before.args.d6) (sym c.enum-told4.given.1)
+returns_4 c = ap (λ (r : Rule). cut_count r c.args.d3 c.args.d6) (sym c.in-FallingNumber.is)
 
 pub cut_count_spec : {M : Type 1} → statement M
 cut_count_spec =

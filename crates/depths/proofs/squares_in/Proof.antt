@@ -7,7 +7,7 @@ use Rattle.depths.proofs.squares_in.Tie as tie
 
 returns : tie.Need-returns
 unfolding cut_count
-returns c = c.piece-count.ensures
+returns c = c.piece_count.ensures
 
 pub squares_in_spec : {M : Type 1} → statement M
 squares_in_spec =

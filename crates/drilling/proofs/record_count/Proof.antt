@@ -23,38 +23,38 @@ record Gave (n t : ℕ) : Type 0 where
   few : n < 4_294_967_296
   tail : t ≤ 1
 
-gave : (c : tie.After-dwell-count) → Gave c.before.bite-count.result c.dwell-count.result
+gave : (c : tie.After-dwell_count-tail) → Gave c.bite_count-n.result c.dwell_count-tail.result
 gave c =
-    let s = c.before.before in
+    let s = c in
     let b = s.args.b in
-    let f : c.before.bite-count.result < 4_294_967_296 = search rules in record {
-      some = omega (arith, c.before.bite-count.ensures, some_bites b s.requires);
+    let f : c.bite_count-n.result < 4_294_967_296 = search rules in record {
+      some = omega (arith, c.bite_count-n.ensures, some_bites b s.requires);
       few = f;
-      tail = omega (arith, c.dwell-count.ensures, tail_few (eqb b.dwell 0));
+      tail = omega (arith, c.dwell_count-tail.ensures, tail_few (eqb b.dwell 0));
     }
 
-bite_count_requires : tie.Need-bite-count-requires
+bite_count_requires : tie.Need-bite_count-n-requires
 bite_count_requires c κs = search rules
 
-cast_n : tie.Need-overflow-cast-n
+cast_n : tie.Need-overflow_cast-n
 cast_n c = search rules
 
-dwell_count_requires : tie.Need-dwell-count-requires
+dwell_count_requires : tie.Need-dwell_count-tail-requires
 dwell_count_requires c κs = search rules
 
-add_tail : tie.Need-overflow-add-tail
+add_tail : tie.Need-overflow_add-tail
 add_tail c = omega (arith, gave c)
 
-sub_result : tie.Need-overflow-sub-result
+sub_result : tie.Need-overflow_sub-result
 sub_result c = omega (arith, gave c.before)
 
-mul_result : tie.Need-overflow-mul-result
+mul_result : tie.Need-overflow_mul-result
 mul_result c = search rules
 
-add_result : tie.Need-overflow-add-result
+add_result : tie.Need-overflow_add-result
 add_result c = omega (arith, gave c.before)
 
-add_result_2 : tie.Need-overflow-add-result-2
+add_result_2 : tie.Need-overflow_add-result-then-b
 add_result_2 c = omega (arith, gave c.before)
 
 counted : (s : tie.Start) → length (drilling s.args.b) ≡ record_count s.args.b
@@ -68,26 +68,26 @@ short_count : (b : Bore) → b.full ≡ false → record_count b ≡ bite_count 
 unfolding record_count
 short_count b e = ap (λ (t : Bool). bite_count b + (cond t 2 1 * (bite_count b - 1) + (cond (eqb b.dwell 0) 0 1 + 1))) e ∙ omega arith
 
-returns : tie.Need-returns
+returns : tie.Need-returns-then-b
 returns c =
-    let d = c.before in
-    let n = d.before.bite-count.ensures in
-    (λ i. n i + (2 * (n i - 1) + (d.dwell-count.ensures i + 1))) ∙ sym (counted d.before.before ∙ full_count d.before.before.args.b c.if1.true)
+    let d = c in
+    let n = d.bite_count-n.ensures in
+    (λ i. n i + (2 * (n i - 1) + (d.dwell_count-tail.ensures i + 1))) ∙ sym (counted d.before.before.before ∙ full_count d.args.b c.if-b.true)
 
-sub_result_2 : tie.Need-overflow-sub-result-2
+sub_result_2 : tie.Need-overflow_sub-result-2
 sub_result_2 c = omega (arith, gave c.before)
 
-add_result_3 : tie.Need-overflow-add-result-3
+add_result_3 : tie.Need-overflow_add-result-2
 add_result_3 c = omega (arith, gave c.before)
 
-add_result_4 : tie.Need-overflow-add-result-4
+add_result_4 : tie.Need-overflow_add-result-3
 add_result_4 c = omega (arith, gave c.before)
 
-returns_2 : tie.Need-returns-2
+returns_2 : tie.Need-returns
 returns_2 c =
-    let d = c.before in
-    let n = d.before.bite-count.ensures in
-    (λ i. n i + ((n i - 1) + (d.dwell-count.ensures i + 1))) ∙ sym (counted d.before.before ∙ short_count d.before.before.args.b c.if1.false)
+    let d = c in
+    let n = d.bite_count-n.ensures in
+    (λ i. n i + ((n i - 1) + (d.dwell_count-tail.ensures i + 1))) ∙ sym (counted d.before.before.before ∙ short_count d.args.b c.if-b.false)
 
 pub record_count_spec : {M : Type 1} → statement M
 record_count_spec =

@@ -9,7 +9,7 @@ use Rattle.fields.proofs.first_at.Statement.{statement}
 use Rattle.fields.proofs.first_at.Tie as tie
 
 returns : tie.Need-returns
-returns c = let s = c.before.before.before in c.record-in.ensures ∙ ap record_in (part_is s.args.list.now (start_in One s.args.k))
+returns c = let s = c in c.record_in.ensures ∙ ap record_in (part_is s.args.list.now (start_in One s.args.k))
 
 pub first_at_spec : {M : Type 1} → statement M
 first_at_spec =

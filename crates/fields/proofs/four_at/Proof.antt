@@ -5,7 +5,7 @@ use Rattle.fields.proofs.four_at.Statement.{statement}
 use Rattle.fields.proofs.four_at.Tie as tie
 
 returns : tie.Need-returns
-returns c = let s = c.before.before.before.before in four_taken s.args.part.now s.args.at s.requires
+returns c = let s = c in four_taken s.args.part.now s.args.at s.requires
 
 pub four_at_spec : {M : Type 1} → statement M
 four_at_spec =

@@ -10,10 +10,10 @@ use Rattle.fields.proofs.listed_at.Tie as tie
 returns : tie.Need-returns
 returns c =
     let o = c in
-    let r = o.before.before in
-    let s = r.before.before.before in
+    let r = o in
+    let s = r in
     let same = part_is s.args.list.now (record_start s.args.k) in
-    λ i. listed ((o.origin-in.ensures ∙ ap origin_in same) i) ((r.record-in.ensures ∙ ap record_in same) i)
+    λ i. listed ((o.origin_in-origin.ensures ∙ ap origin_in same) i) ((r.record_in-what.ensures ∙ ap record_in same) i)
 
 pub listed_at_spec : {M : Type 1} → statement M
 listed_at_spec =

@@ -8,8 +8,8 @@ returns : tie.Need-returns
 unfolding origin_in
 returns c =
     let second = c in
-    let first = second.before in
-    λ i. record { program = first.two_at.ensures.0 i; block = second.two-at2.ensures.0 i }
+    let first = second in
+    λ i. record { program = first.two_at-program.ensures.0 i; block = second.two_at-block.ensures.0 i }
 
 pub origin_in_spec : {M : Type 1} → statement M
 origin_in_spec = tie.close (tie.spec (λ c κs. search rules) (λ c κs. search rules) (λ c. search rules) (λ c. search rules) returns)

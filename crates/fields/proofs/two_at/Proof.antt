@@ -7,10 +7,10 @@ use Rattle.fields.proofs.two_at.Tie as tie
 
 returns : tie.Need-returns
 returns c =
-    let s = c.before.before.before.before.before in
-    let low = c.before.before.wide.ensures in
-    let high = c.wide2.ensures in
-    (two_value s.args.part.now s.args.at c.before.before.wide.result c.wide2.result s.requires low.0 high.0, omega (arith, low.1, high.1))
+    let s = c in
+    let low = c.wide.ensures in
+    let high = c.wide-2.ensures in
+    (two_value s.args.part.now s.args.at c.wide.result c.wide-2.result s.requires low.0 high.0, omega (arith, low.1, high.1))
 
 pub two_at_spec : {M : Type 1} → statement M
 two_at_spec =

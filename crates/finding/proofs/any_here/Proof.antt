@@ -5,21 +5,21 @@ use borrow.Author.Rules.{rules}
 use Rattle.finding.proofs.any_here.Statement.{statement}
 use Rattle.finding.proofs.any_here.Tie as tie
 
-returns : tie.Need-returns
+returns : tie.Need-returns-in-ProgramLine
 unfolding here_of
-returns c = sym (ap (here_of AnyBlock) c.enum_told.given.1)
+returns c = sym (ap (here_of AnyBlock) c.in-ProgramLine.is)
 
-returns_2 : tie.Need-returns-2
+returns_2 : tie.Need-returns-in-BlockLine
 unfolding here_of
-returns_2 c = sym (ap (here_of AnyBlock) c.enum-told2.given.1)
+returns_2 c = sym (ap (here_of AnyBlock) c.in-BlockLine.is)
 
-returns_3 : tie.Need-returns-3
+returns_3 : tie.Need-returns-in-Blank
 unfolding here_of
-returns_3 c = sym (ap (here_of AnyBlock) c.enum-told3.given.1)
+returns_3 c = sym (ap (here_of AnyBlock) c.in-Blank.is)
 
-returns_4 : tie.Need-returns-4
+returns_4 : tie.Need-returns-in-Other
 unfolding here_of
-returns_4 c = sym (ap (here_of AnyBlock) c.enum-told4.given.1)
+returns_4 c = sym (ap (here_of AnyBlock) c.in-Other.is)
 
 pub any_here_spec : {M : Type 1} → statement M
 any_here_spec =

@@ -8,25 +8,25 @@ use Rattle.groovable.proofs.Fit.{cuts_are, cuts_many, cuts_make}
 use Rattle.groovable.proofs.are_cuts.Statement.{statement}
 use Rattle.groovable.proofs.are_cuts.Tie as tie
 
-returns : tie.Need-returns
-returns c = tells_no (λ h. omega (arith, h.0, c.if1.true))
+returns : tie.Need-returns-then-p-eq0
+returns c = tells_no (λ h. omega (arith, h.0, c.if-p-eq0.true))
 
-returns_2 : tie.Need-returns-2
+returns_2 : tie.Need-returns-then-p-n
 returns_2 c =
-    let o = c.before.before.before.before in
-    let a = o.before.before.before.args in
-    tells_no (λ h. c.if2.true (cuts_many a.g a.p h.0 h.1 ∙ sym o.cut-count.ensures))
+    let o = c in
+    let a = o.args in
+    tells_no (λ h. c.if-p-n.true (cuts_many a.g a.p h.0 h.1 ∙ sym o.cut_count-n.ensures))
 
-returns_3 : tie.Need-returns-3
+returns_3 : tie.Need-returns
 returns_3 c =
-    let many = c.before in
-    let some = many.before.before in
-    let o = some.before.before in
-    let a = o.before.before.before.args in
-    let long = o.before.length-of in
-    let left : 0 < a.p.left = omega (arith, some.if1.false) in
+    let many = c in
+    let some = many in
+    let o = some in
+    let a = o.args in
+    let long = o.length_of-deep in
+    let left : 0 < a.p.left = omega (arith, some.if-p-eq0.false) in
     tells_same c.total.result long.result
-    (λ e. (left, cuts_are a.g a.p left (many.if2.false ∙ o.cut-count.ensures) (sym c.total.ensures ∙ e ∙ long.ensures)))
+    (λ e. (left, cuts_are a.g a.p left (many.if-p-n.false ∙ o.cut_count-n.ensures) (sym c.total.ensures ∙ e ∙ long.ensures)))
     (λ h. c.total.ensures ∙ cuts_make a.g a.p h.0 h.1 ∙ sym long.ensures)
 
 pub are_cuts_spec : {M : Type 1} → statement M

@@ -13,15 +13,15 @@ use Rattle.groovable.proofs.fits_across.Tie as tie
 
 returns : tie.Need-returns
 returns c =
-    let room = c.before.distance in
-    let s = c.before.before in
+    let room = c.distance-room in
+    let s = c in
     let is = room.ensures ∙ ap (λ (w : ℤ). nat_abs (w -ℤ least)) (to_z-of_z s.ranges.width) in
     let w = s.args.width in
     let n = sum (row_of s.args.steps) in
     let f = s.ranges.width in
-    let all = c.total.ensures in
-    tells_at_most c.total.result room.result
-    (λ e. (omega (arith, e, all, room.type-inv), room_fits w n f (omega (arith, e, all, is))))
+    let all = c.total-across.ensures in
+    tells_at_most c.total-across.result room.result
+    (λ e. (omega (arith, e, all, room.type_inv), room_fits w n f (omega (arith, e, all, is))))
     (λ h. omega (arith, fits_room w n f h.1, all, is))
 
 pub fits_across_spec : {M : Type 1} → statement M

@@ -34,30 +34,30 @@ about k w = (sum (row_of k.steps) < 2 ^ 32) × SFits w32 (w +ℤ along Minus (su
 told_across : (s : tie.Start) {test : Bool} → Tells test (about s.args.c (to_z w32 (of_z w32 s.args.c.width))) → Tells test (about s.args.c s.args.c.width)
 told_across s t = tells_of (about s.args.c) (sym (to_z-of_z (held s).width)) t
 
-returns : tie.Need-returns
-returns c = tells_no (λ s. told_no c.before.are-cuts.ensures (not-true _ c.if1.true) (s.some, s.row))
+returns : tie.Need-returns-then-not-are_cuts
+returns c = tells_no (λ s. told_no c.are_cuts.ensures c.if-not-are_cuts.true (s.some, s.row))
 
-returns_2 : tie.Need-returns-2
-returns_2 c = tells_no (λ s. told_no c.before.stays_within.ensures (not-true _ c.if2.true) s.reach)
+returns_2 : tie.Need-returns-then-not-stays_within
+returns_2 c = tells_no (λ s. told_no c.stays_within.ensures c.if-not-stays_within.true s.reach)
 
-returns_3 : tie.Need-returns-3
+returns_3 : tie.Need-returns-then-not-fits_across
 returns_3 c =
-    let start = c.before.before.before.before.before.before.before.before.before.before.before.before in
-    tells_no (λ s. told_no (told_across start c.before.fits-across.ensures) (not-true _ c.if3.true) (s.small, s.wide))
+    let start = c in
+    tells_no (λ s. told_no (told_across start.before.before.before.before.before.before.before.before.before.before.before.before c.fits_across.ensures) c.if-not-fits_across.true (s.small, s.wide))
 
-returns_4 : tie.Need-returns-4
+returns_4 : tie.Need-returns
 returns_4 c =
-    let across = c.before in
-    let within = across.before.before.before in
-    let same = within.before.before in
-    let start = same.before.before.before.before.before.before.before in
+    let across = c in
+    let within = across in
+    let same = within in
+    let start = same in
     let k = start.args.c in
-    let h = held start in
-    let row = same.before.are-cuts.ensures.0 (not-false _ same.if1.false) in
-    let reach = within.before.stays_within.ensures.0 (not-false _ within.if2.false) in
-    let last = (told_across start across.before.fits-across.ensures).0 (not-false _ across.if3.false) in
+    let h = held start.before.before.before.before.before.before.before.before.before.before.before.before.before in
+    let row = same.are_cuts.ensures.0 same.if-not-are_cuts.false in
+    let reach = within.stays_within.ensures.0 within.if-not-stays_within.false in
+    let last = (told_across start.before.before.before.before.before.before.before.before.before.before.before.before.before across.fits_across.ensures).0 across.if-not-fits_across.false in
     let parts : Parts k = record { some = row.0; row = row.1; far = apart k.groove.depth h.start h.target; reach = reach; small = last.0; wide = last.1 } in
-    tells_sound k parts c.is-ready.ensures
+    tells_sound k parts c.is_ready.ensures
 
 pub is_fit_spec : {M : Type 1} → statement M
 is_fit_spec =

@@ -10,23 +10,23 @@ use Rattle.grooving.proofs.Asked.{asked}
 use Rattle.grooving.proofs.cut_count.Statement.{statement}
 use Rattle.grooving.proofs.cut_count.Tie as tie
 
-length_of_requires : tie.Need-length-of-requires
+length_of_requires : tie.Need-length_of-deep-requires
 length_of_requires c κs = search rules
 
-returns : tie.Need-returns
+returns : tie.Need-returns-then-piece-eq0
 unfolding cut_count
-returns c = rw (eq-eqb _ _ c.if1.true)
+returns c = rw (eq-eqb _ _ c.if-piece-eq0.true)
 
-piece_count_requires : tie.Need-piece-count-requires
+piece_count_requires : tie.Need-piece_count-requires
 piece_count_requires c κs =
-    let s = c.before.before.before in
-    (omega (arith, (asked s.args.g s.requires).deep, c.before.length-of.ensures), omega (arith, c.if1.false))
+    let s = c in
+    (omega (arith, (asked s.args.g s.requires).deep, c.length_of-deep.ensures), omega (arith, c.if-piece-eq0.false))
 
-returns_2 : tie.Need-returns-2
+returns_2 : tie.Need-returns
 unfolding cut_count
 returns_2 c =
-    let s = c.before.before.before.before in
-    rw (ne_eqb _ _ c.before.if1.false) (c.piece-count.ensures ∙ ap (λ (e : ℕ). count e s.args.g.piece) c.before.before.length-of.ensures)
+    let s = c in
+    rw (ne_eqb _ _ c.if-piece-eq0.false) (c.piece_count.ensures ∙ ap (λ (e : ℕ). count e s.args.g.piece) c.length_of-deep.ensures)
 
 pub cut_count_spec : {M : Type 1} → statement M
 cut_count_spec = tie.close (tie.spec length_of_requires returns piece_count_requires returns_2)

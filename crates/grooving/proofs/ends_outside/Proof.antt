@@ -14,18 +14,18 @@ use Rattle.grooving.proofs.ends_outside.Tie as tie
 
 returns : tie.Need-returns
 returns c =
-    let w = c.before.before in
-    let o = w.before in
-    let s = o.before.before.before.before.before in
+    let w = c in
+    let o = w in
+    let s = o in
     let l = s.args.l in
     let g = s.args.g in
     let b = g.facing in
     let ds : SFits w32 g.depth.start = search rules in
     let dt : SFits w32 g.depth.target = search rules in
     let ws : SFits w32 g.width.start = search rules in
-    let last : to_z w32 (of_z w32 w.last-width.result) ≡ last_width g = to_z-of_z (sfits_of {w = w32} w.last-width.type-inv) ∙ w.last-width.ensures in
-    let first : o.is-outside-to.result ≡ outside_to l b g.depth.start g.width.start = o.is-outside-to.ensures ∙ (λ i. outside_to l b (to_z-of_z ds i) (to_z-of_z ws i)) in
-    let second : c.is-outside-to2.result ≡ outside_to l b g.depth.target (last_width g) = c.is-outside-to2.ensures ∙ (λ i. outside_to l b (to_z-of_z dt i) (last i)) in
+    let last : to_z w32 (of_z w32 w.last_width-last.result) ≡ last_width g = to_z-of_z (sfits_of {w = w32} w.last_width-last.type_inv) ∙ w.last_width-last.ensures in
+    let first : o.is_outside_to-at_start.result ≡ outside_to l b g.depth.start g.width.start = o.is_outside_to-at_start.ensures ∙ (λ i. outside_to l b (to_z-of_z ds i) (to_z-of_z ws i)) in
+    let second : c.is_outside_to.result ≡ outside_to l b g.depth.target (last_width g) = c.is_outside_to.ensures ∙ (λ i. outside_to l b (to_z-of_z dt i) (last i)) in
     (λ i. first i || second i) ∙ sym (reach l g s.requires)
 
 pub ends_outside_spec : {M : Type 1} → statement M

@@ -6,25 +6,25 @@ use Rattle.grooving.specs.Grooving.{plunge_count}
 use Rattle.grooving.proofs.plunge_count.Statement.{statement}
 use Rattle.grooving.proofs.plunge_count.Tie as tie
 
-cut_count_requires : tie.Need-cut-count-requires
+cut_count_requires : tie.Need-cut_count-requires
 cut_count_requires c κs = search rules
 
-cast_twice : tie.Need-overflow-cast-twice
+cast_twice : tie.Need-overflow_cast-twice
 cast_twice c = search rules
 
-mul_twice : tie.Need-overflow-mul-twice
+mul_twice : tie.Need-overflow_mul-twice
 mul_twice c = search rules
 
-returns : tie.Need-returns
+returns : tie.Need-returns-then-g-eq0
 unfolding plunge_count
-returns c = rw (eq-eqb _ _ c.if1.true) (omega (arith, c.before.before.cut-count.ensures))
+returns c = rw (eq-eqb _ _ c.if-g-eq0.true) (omega (arith, c.cut_count.ensures))
 
-add_result : tie.Need-overflow-add-result
+add_result : tie.Need-overflow_add-result
 add_result c = search rules
 
-returns_2 : tie.Need-returns-2
+returns_2 : tie.Need-returns
 unfolding plunge_count
-returns_2 c = rw (ne_eqb _ _ c.if1.false) (omega (arith, c.before.before.cut-count.ensures))
+returns_2 c = rw (ne_eqb _ _ c.if-g-eq0.false) (omega (arith, c.cut_count.ensures))
 
 pub plunge_count_spec : {M : Type 1} → statement M
 plunge_count_spec =

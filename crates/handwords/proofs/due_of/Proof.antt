@@ -6,7 +6,7 @@ use Rattle.handwords.proofs.due_of.Tie as tie
 
 returns : tie.Need-returns
 unfolding due_by
-returns c = c.due-from.ensures
+returns c = c.due_from.ensures
 
 pub due_of_spec : {M : Type 1} → statement M
 due_of_spec = tie.close (tie.spec (λ c. search rules) (λ c κs. search rules) returns)

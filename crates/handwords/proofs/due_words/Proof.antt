@@ -11,14 +11,14 @@ use Rattle.handwords.proofs.due_words.Tie as tie
 returns : tie.Need-returns
 unfolding due_by
 returns c =
-    let k = c.before in
-    let h = k.before in
-    let s = h.before in
-    let e = c.slot-words.ensures in
+    let k = c in
+    let h = k in
+    let s = h in
+    let e = c.slot_words.ensures in
     let deed = s.args.deed in (
-      e.1 ∙ k.kept_of.ensures,
-      ap (λ (u : ℕ). due_from u (kept deed s.args.due)) e.0 ∙ h.hand_of.ensures.back deed,
-      ap (λ (u : ℕ). eqb u 0) e.0 ∙ h.hand_of.ensures.some,
+      e.1 ∙ k.kept_of-slot.ensures,
+      ap (λ (u : ℕ). due_from u (kept deed s.args.due)) e.0 ∙ h.hand_of-hand.ensures.back deed,
+      ap (λ (u : ℕ). eqb u 0) e.0 ∙ h.hand_of-hand.ensures.some,
     )
 
 pub due_words_spec : {M : Type 1} → statement M

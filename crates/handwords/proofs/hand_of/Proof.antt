@@ -5,20 +5,20 @@ use Rattle.handwords.specs.Due.{Hands}
 use Rattle.handwords.proofs.hand_of.Statement.{statement}
 use Rattle.handwords.proofs.hand_of.Tie as tie
 
-returns : tie.Need-returns
-returns c = subst (Hands 5) (sym c.enum_told.given.1) (record { some = refl; back = λ d. refl })
+returns : tie.Need-returns-in-Turning
+returns c = subst (Hands 5) (sym c.in-Turning.is) (record { some = refl; back = λ d. refl })
 
-returns_2 : tie.Need-returns-2
-returns_2 c = subst (Hands 5) (sym c.enum-told2.given.1) (record { some = refl; back = λ d. refl })
+returns_2 : tie.Need-returns-in-Threading
+returns_2 c = subst (Hands 5) (sym c.in-Threading.is) (record { some = refl; back = λ d. refl })
 
-returns_3 : tie.Need-returns-3
-returns_3 c = subst (Hands 5) (sym c.enum-told3.given.1) (record { some = refl; back = λ d. refl })
+returns_3 : tie.Need-returns-in-Grooving
+returns_3 c = subst (Hands 5) (sym c.in-Grooving.is) (record { some = refl; back = λ d. refl })
 
-returns_4 : tie.Need-returns-4
-returns_4 c = subst (Hands 5) (sym c.enum-told4.given.1) (record { some = refl; back = λ d. refl })
+returns_4 : tie.Need-returns-in-Drilling
+returns_4 c = subst (Hands 5) (sym c.in-Drilling.is) (record { some = refl; back = λ d. refl })
 
-returns_5 : tie.Need-returns-5
-returns_5 c = subst (Hands c.hand_at.result) (sym c.before.before.due.given.1) c.hand_at.ensures
+returns_5 : tie.Need-returns-in-Single
+returns_5 c = subst (Hands c.hand_at.result) (sym c.in-Single.is) c.hand_at.ensures
 
 pub hand_of_spec : {M : Type 1} → statement M
 hand_of_spec =

@@ -5,8 +5,8 @@ use Rattle.resumable.specs.Kept.{kept}
 use Rattle.handwords.proofs.kept_of.Statement.{statement}
 use Rattle.handwords.proofs.kept_of.Tie as tie
 
-returns_5 : tie.Need-returns-5
-returns_5 c = let m = c.before.before in c.kept_at.ensures ∙ ap (kept m.before.before.args.deed) (sym m.due.given.1)
+returns_5 : tie.Need-returns-in-Single
+returns_5 c = let m = c in c.kept_at.ensures ∙ ap (kept m.args.deed) (sym m.in-Single.is)
 
 pub kept_of_spec : {M : Type 1} → statement M
 kept_of_spec =

@@ -7,25 +7,25 @@ use Rattle.handwords.specs.Due.{slot_of}
 use Rattle.handwords.proofs.slot_of.Statement.{statement}
 use Rattle.handwords.proofs.slot_of.Tie as tie
 
-returns : tie.Need-returns
+returns : tie.Need-returns-then-tag-eq-TAG
 unfolding slot_of
-returns c = rw (eq-eqb _ _ c.before.if1.true) (ap Turning c.cursor-of.ensures)
+returns c = rw (eq-eqb _ _ c.if-tag-eq-TAG.true) (ap Turning c.cursor_of.ensures)
 
-returns_2 : tie.Need-returns-2
+returns_2 : tie.Need-returns-then-tag-eq-TAG-2
 unfolding slot_of
-returns_2 c = rw (ne_eqb _ _ c.before.before.if1.false, eq-eqb _ _ c.before.if2.true) (ap Threading c.cursor-of2.ensures)
+returns_2 c = rw (ne_eqb _ _ c.if-tag-eq-TAG.false, eq-eqb _ _ c.if-tag-eq-TAG-2.true) (ap Threading c.cursor_of-then-tag-eq-TAG-2.ensures)
 
-returns_3 : tie.Need-returns-3
+returns_3 : tie.Need-returns-then-tag-eq-TAG-3
 unfolding slot_of
-returns_3 c = rw (ne_eqb _ _ c.before.before.before.if1.false, ne_eqb _ _ c.before.before.if2.false, eq-eqb _ _ c.before.if3.true) (ap Grooving c.cursor-of3.ensures)
+returns_3 c = rw (ne_eqb _ _ c.if-tag-eq-TAG.false, ne_eqb _ _ c.if-tag-eq-TAG-2.false, eq-eqb _ _ c.if-tag-eq-TAG-3.true) (ap Grooving c.cursor_of-then-tag-eq-TAG-3.ensures)
 
-returns_4 : tie.Need-returns-4
+returns_4 : tie.Need-returns-then-tag-eq-TAG-4
 unfolding slot_of
-returns_4 c = rw (ne_eqb _ _ c.before.before.before.before.if1.false, ne_eqb _ _ c.before.before.before.if2.false, ne_eqb _ _ c.before.before.if3.false, eq-eqb _ _ c.before.if4.true) (ap Drilling c.cursor-of4.ensures)
+returns_4 c = rw (ne_eqb _ _ c.if-tag-eq-TAG.false, ne_eqb _ _ c.if-tag-eq-TAG-2.false, ne_eqb _ _ c.if-tag-eq-TAG-3.false, eq-eqb _ _ c.if-tag-eq-TAG-4.true) (ap Drilling c.cursor_of-then-tag-eq-TAG-4.ensures)
 
-returns_5 : tie.Need-returns-5
+returns_5 : tie.Need-returns
 unfolding slot_of
-returns_5 c = rw (ne_eqb _ _ c.before.before.before.before.if1.false, ne_eqb _ _ c.before.before.before.if2.false, ne_eqb _ _ c.before.before.if3.false, ne_eqb _ _ c.before.if4.false) (ap Single c.stage-of.ensures)
+returns_5 c = rw (ne_eqb _ _ c.if-tag-eq-TAG.false, ne_eqb _ _ c.if-tag-eq-TAG-2.false, ne_eqb _ _ c.if-tag-eq-TAG-3.false, ne_eqb _ _ c.if-tag-eq-TAG-4.false) (ap Single c.stage_of.ensures)
 
 pub slot_of_spec : {M : Type 1} → statement M
 slot_of_spec =

@@ -4,29 +4,29 @@ use borrow.Author.Tests.{eq-eqb, ne_eqb}
 use Rattle.handwords.proofs.stage_of.Statement.{statement}
 use Rattle.handwords.proofs.stage_of.Tie as tie
 
-returns : tie.Need-returns
-returns c = rw (eq-eqb _ _ c.if1.true) refl
+returns : tie.Need-returns-then-u-eq-SPEED
+returns c = rw (eq-eqb _ _ c.if-u-eq-SPEED.true) refl
 
-returns_2 : tie.Need-returns-2
-returns_2 c = rw (ne_eqb _ _ c.before.if1.false, eq-eqb _ _ c.if2.true) refl
+returns_2 : tie.Need-returns-then-u-eq-TOOL
+returns_2 c = rw (ne_eqb _ _ c.if-u-eq-SPEED.false, eq-eqb _ _ c.if-u-eq-TOOL.true) refl
 
-returns_3 : tie.Need-returns-3
-returns_3 c = rw (ne_eqb _ _ c.before.before.if1.false, ne_eqb _ _ c.before.if2.false, eq-eqb _ _ c.if3.true) refl
+returns_3 : tie.Need-returns-then-u-eq-SPINDLE
+returns_3 c = rw (ne_eqb _ _ c.if-u-eq-SPEED.false, ne_eqb _ _ c.if-u-eq-TOOL.false, eq-eqb _ _ c.if-u-eq-SPINDLE.true) refl
 
-returns_4 : tie.Need-returns-4
-returns_4 c = rw (ne_eqb _ _ c.before.before.before.if1.false, ne_eqb _ _ c.before.before.if2.false, ne_eqb _ _ c.before.if3.false, eq-eqb _ _ c.if4.true) refl
+returns_4 : tie.Need-returns-then-u-eq-COOLANT
+returns_4 c = rw (ne_eqb _ _ c.if-u-eq-SPEED.false, ne_eqb _ _ c.if-u-eq-TOOL.false, ne_eqb _ _ c.if-u-eq-SPINDLE.false, eq-eqb _ _ c.if-u-eq-COOLANT.true) refl
 
-returns_5 : tie.Need-returns-5
-returns_5 c = rw (ne_eqb _ _ c.before.before.before.before.if1.false, ne_eqb _ _ c.before.before.before.if2.false, ne_eqb _ _ c.before.before.if3.false, ne_eqb _ _ c.before.if4.false, eq-eqb _ _ c.if5.true) refl
+returns_5 : tie.Need-returns-then-u-eq-DEED
+returns_5 c = rw (ne_eqb _ _ c.if-u-eq-SPEED.false, ne_eqb _ _ c.if-u-eq-TOOL.false, ne_eqb _ _ c.if-u-eq-SPINDLE.false, ne_eqb _ _ c.if-u-eq-COOLANT.false, eq-eqb _ _ c.if-u-eq-DEED.true) refl
 
-returns_6 : tie.Need-returns-6
-returns_6 c = rw (ne_eqb _ _ c.before.before.before.before.before.if1.false, ne_eqb _ _ c.before.before.before.before.if2.false, ne_eqb _ _ c.before.before.before.if3.false, ne_eqb _ _ c.before.before.if4.false, ne_eqb _ _ c.before.if5.false, eq-eqb _ _ c.if6.true) refl
+returns_6 : tie.Need-returns-then-u-eq-CENTRE
+returns_6 c = rw (ne_eqb _ _ c.if-u-eq-SPEED.false, ne_eqb _ _ c.if-u-eq-TOOL.false, ne_eqb _ _ c.if-u-eq-SPINDLE.false, ne_eqb _ _ c.if-u-eq-COOLANT.false, ne_eqb _ _ c.if-u-eq-DEED.false, eq-eqb _ _ c.if-u-eq-CENTRE.true) refl
 
-returns_7 : tie.Need-returns-7
-returns_7 c = rw (ne_eqb _ _ c.before.before.before.before.before.before.if1.false, ne_eqb _ _ c.before.before.before.before.before.if2.false, ne_eqb _ _ c.before.before.before.before.if3.false, ne_eqb _ _ c.before.before.before.if4.false, ne_eqb _ _ c.before.before.if5.false, ne_eqb _ _ c.before.if6.false, eq-eqb _ _ c.if7.true) refl
+returns_7 : tie.Need-returns-then-u-eq-STOP
+returns_7 c = rw (ne_eqb _ _ c.if-u-eq-SPEED.false, ne_eqb _ _ c.if-u-eq-TOOL.false, ne_eqb _ _ c.if-u-eq-SPINDLE.false, ne_eqb _ _ c.if-u-eq-COOLANT.false, ne_eqb _ _ c.if-u-eq-DEED.false, ne_eqb _ _ c.if-u-eq-CENTRE.false, eq-eqb _ _ c.if-u-eq-STOP.true) refl
 
-returns_8 : tie.Need-returns-8
-returns_8 c = rw (ne_eqb _ _ c.before.before.before.before.before.before.if1.false, ne_eqb _ _ c.before.before.before.before.before.if2.false, ne_eqb _ _ c.before.before.before.before.if3.false, ne_eqb _ _ c.before.before.before.if4.false, ne_eqb _ _ c.before.before.if5.false, ne_eqb _ _ c.before.if6.false, ne_eqb _ _ c.if7.false) refl
+returns_8 : tie.Need-returns
+returns_8 c = rw (ne_eqb _ _ c.if-u-eq-SPEED.false, ne_eqb _ _ c.if-u-eq-TOOL.false, ne_eqb _ _ c.if-u-eq-SPINDLE.false, ne_eqb _ _ c.if-u-eq-COOLANT.false, ne_eqb _ _ c.if-u-eq-DEED.false, ne_eqb _ _ c.if-u-eq-CENTRE.false, ne_eqb _ _ c.if-u-eq-STOP.false) refl
 
 pub stage_of_spec : {M : Type 1} → statement M
 stage_of_spec =

@@ -4,7 +4,7 @@ use borrow.Author.Tests.{not-true, not-false}
 use mathlib.Core.Path.{◌≡◌, sym, ◌∙◌}
 use lib.ListN.{length}
 use Rattle.telling.proofs.Tells.{never}
-use Rattle.resumable.specs.Kept.{Fits}
+use Rattle.cyclehand.specs.of_resumable.Kept.{Fits}
 use Rattle.cyclewords.specs.Sizes.{due_words}
 use Rattle.statewords.proofs.Parts.{length_due}
 use Rattle.inhand.specs.State.{due_in}

@@ -14,20 +14,20 @@ use Rattle.judging.proofs.Judges.{some_not, none_not}
 use Rattle.judging.proofs.front_right.Statement.{statement}
 use Rattle.judging.proofs.front_right.Tie as tie
 
-returns : tie.Need-returns
+returns : tie.Need-returns-then-part
 returns c =
-    let s = c.before.before.before.before in
+    let s = c in
     let b = s.args.part.now in
-    ap (λ (t : Bool). t && (in_turn s.args.due (record_in b).kind && is_right (record_in b))) (sym (some_not (eqb (get_or b zeros_at 0) 0) (eqb (get_or b (zeros_at + 1) 0) 0) c.if1.true))
+    ap (λ (t : Bool). t && (in_turn s.args.due (record_in b).kind && is_right (record_in b))) (sym (some_not (eqb (get_or b zeros_at 0) 0) (eqb (get_or b (zeros_at + 1) 0) 0) c.if-part.true))
 
-returns_2 : tie.Need-returns-2
+returns_2 : tie.Need-returns
 returns_2 c =
-    let l = c.before.before in
-    let s = l.before.before.before.before in
+    let l = c in
+    let s = l in
     let b = s.args.part.now in
-    c.is-right-after.ensures
-    ∙ ap (λ (r : Record). in_turn s.args.due r.kind && is_right r) c.before.record-in.ensures
-    ∙ ap (λ (t : Bool). t && (in_turn s.args.due (record_in b).kind && is_right (record_in b))) (sym (none_not (eqb (get_or b zeros_at 0) 0) (eqb (get_or b (zeros_at + 1) 0) 0) l.if1.false))
+    c.is_right_after.ensures
+    ∙ ap (λ (r : Record). in_turn s.args.due r.kind && is_right r) c.record_in.ensures
+    ∙ ap (λ (t : Bool). t && (in_turn s.args.due (record_in b).kind && is_right (record_in b))) (sym (none_not (eqb (get_or b zeros_at 0) 0) (eqb (get_or b (zeros_at + 1) 0) 0) l.if-part.false))
 
 pub front_right_spec : {M : Type 1} → statement M
 front_right_spec =

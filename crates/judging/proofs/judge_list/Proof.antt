@@ -11,46 +11,46 @@ use Rattle.judging.proofs.Judges.{long_enough, refused_mark, is_first, is_second
 use Rattle.judging.proofs.judge_list.Statement.{statement}
 use Rattle.judging.proofs.judge_list.Tie as tie
 
-returns : tie.Need-returns
-returns c = let s = c.before.before.before in refused_mark s.args.list.now (sym c.before.mark-wrong.ensures ∙ c.if1.true)
+returns : tie.Need-returns-then-mark_wrong
+returns c = let s = c in refused_mark s.args.list.now (sym c.mark_wrong.ensures ∙ c.if-mark_wrong.true)
 
 -- the mark is there
-marked : (c : tie.Else1) → mark_wrong c.before.before.before.args.list.now ≡ false
-marked c = sym c.before.mark-wrong.ensures ∙ c.if1.false
+marked : (c : tie.Else-mark_wrong) → mark_wrong c.args.list.now ≡ false
+marked c = sym c.mark_wrong.ensures ∙ c.if-mark_wrong.false
 
-long : (c : tie.Else1) → header_size ≤ length c.before.before.before.args.list.now
-long c = long_enough c.before.before.before.args.list.now (marked c)
+long : (c : tie.Else-mark_wrong) → header_size ≤ length c.args.list.now
+long c = long_enough c.args.list.now (marked c)
 
-two_at_requires : tie.Need-two-at-requires
+two_at_requires : tie.Need-two_at-version-requires
 two_at_requires c κs = omega (arith, long c)
 
-judge_as_requires : tie.Need-judge-as-requires
+judge_as_requires : tie.Need-judge_as-requires
 judge_as_requires c κs = long c.before.before
 
-returns_2 : tie.Need-returns-2
+returns_2 : tie.Need-returns-then-version-eq-FIRST_VERSION
 returns_2 c =
-    let i = c.before in
-    let t = i.before in
-    let e = t.before in
-    c.judge-as.ensures ∙ is_first e.before.before.before.args.list.now (marked e) t.two_at.result t.two_at.ensures.0 i.if2.true
+    let i = c in
+    let t = i in
+    let e = t in
+    c.judge_as.ensures ∙ is_first e.args.list.now (marked e.before.before.before) t.two_at-version.result t.two_at-version.ensures.0 i.if-version-eq-FIRST_VERSION.true
 
-judge_as_requires_2 : tie.Need-judge-as-requires-2
+judge_as_requires_2 : tie.Need-judge_as-requires-then-version
 judge_as_requires_2 c κs = long c.before.before.before
 
-returns_3 : tie.Need-returns-3
+returns_3 : tie.Need-returns-then-version
 returns_3 c =
-    let j = c.before in
-    let i = j.before in
-    let t = i.before in
-    let e = t.before in
-    c.judge-as2.ensures ∙ is_second e.before.before.before.args.list.now (marked e) t.two_at.result t.two_at.ensures.0 i.if2.false j.if3.true
+    let j = c in
+    let i = j in
+    let t = i in
+    let e = t in
+    c.judge_as-then-version.ensures ∙ is_second e.args.list.now (marked e.before.before.before.before) t.two_at-version.result t.two_at-version.ensures.0 i.if-version-eq-FIRST_VERSION.false j.if-version.true
 
-returns_4 : tie.Need-returns-4
+returns_4 : tie.Need-returns
 returns_4 c =
-    let i = c.before in
-    let t = i.before in
-    let e = t.before in
-    refused_version e.before.before.before.args.list.now (marked e) t.two_at.result t.two_at.ensures.0 i.if2.false c.if3.false
+    let i = c in
+    let t = i in
+    let e = t in
+    refused_version e.args.list.now (marked e.before.before.before) t.two_at-version.result t.two_at-version.ensures.0 i.if-version-eq-FIRST_VERSION.false c.if-version.false
 
 pub judge_list_spec : {M : Type 1} → statement M
 judge_list_spec =

@@ -11,19 +11,19 @@ use Rattle.judging.proofs.Judges.{over_limit, within_limit}
 use Rattle.judging.proofs.length_wrong.Statement.{statement}
 use Rattle.judging.proofs.length_wrong.Tie as tie
 
-returns : tie.Need-returns
+returns : tie.Need-returns-then-count-record_limit
 returns c =
-    let m = c.before in
-    let s = m.before.before in
-    over_limit s.args.list.now s.args.v s.args.count s.requires.1 (omega (arith, m.record-limit.ensures, c.if1.true))
+    let m = c in
+    let s = m in
+    over_limit s.args.list.now s.args.v s.args.count s.requires.1 (omega (arith, m.record_limit.ensures, c.if-count-record_limit.true))
 
-returns_2 : tie.Need-returns-2
+returns_2 : tie.Need-returns
 returns_2 c =
-    let e = c.before.before in
-    let m = e.before in
-    let s = m.before.before in
-    ap (λ (n : ℕ). not (eqb (length s.args.list.now) n) || not (eqb (get_or s.args.list.now header_zero_at 0) 0)) c.before.record-start.ensures
-    ∙ within_limit s.args.list.now s.args.v s.args.count s.requires.1 (omega (arith, m.record-limit.ensures, e.if1.false))
+    let e = c in
+    let m = e in
+    let s = m in
+    ap (λ (n : ℕ). not (eqb (length s.args.list.now) n) || not (eqb (get_or s.args.list.now header_zero_at 0) 0)) c.record_start.ensures
+    ∙ within_limit s.args.list.now s.args.v s.args.count s.requires.1 (omega (arith, m.record_limit.ensures, e.if-count-record_limit.false))
 
 pub length_wrong_spec : {M : Type 1} → statement M
 length_wrong_spec = tie.close (tie.spec (λ c κs. search rules) returns (λ c κs. search rules) (λ c. search rules) returns_2)

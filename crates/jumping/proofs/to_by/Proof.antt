@@ -9,11 +9,10 @@ use Rattle.jumping.specs.Jumping.{to_by}
 use Rattle.jumping.proofs.to_by.Statement.{statement}
 use Rattle.jumping.proofs.to_by.Tie as tie
 
-returns : tie.Need-returns
+returns : tie.Need-returns-in-Value
 returns c =
-    let n = c.before.before.number.given in
-    let e : to_z w32 (of_z w32 n.0.0) ≡ n.0.0 = search rules in
-    ap To c.magnitude.ensures ∙ ap (λ (v : ℤ). To (nat_abs v)) e ∙ sym (ap to_by n.1)
+    let e : to_z w32 (of_z w32 c.in-Value.value) ≡ c.in-Value.value = search rules in
+    ap To c.magnitude.ensures ∙ ap (λ (v : ℤ). To (nat_abs v)) e ∙ sym (ap to_by c.in-Value.is)
 
 pub to_by_spec : {M : Type 1} → statement M
 to_by_spec = tie.close (tie.spec (λ c. search rules) (λ c κs. search rules) (λ c. search rules) returns (λ c. search rules))

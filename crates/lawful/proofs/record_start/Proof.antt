@@ -6,11 +6,11 @@ use Rattle.lawful.specs.declared.Version.{Version}
 use Rattle.lawful.proofs.record_start.Statement.{statement}
 use Rattle.lawful.proofs.record_start.Tie as tie
 
-returns : tie.Need-returns
-returns c = ap (λ (v : Version). start_in v c.before.before.args.k) (sym c.enum_told.given.1)
+returns : tie.Need-returns-in-One
+returns c = ap (λ (v : Version). start_in v c.args.k) (sym c.in-One.is)
 
-returns_2 : tie.Need-returns-2
-returns_2 c = ap (λ (v : Version). start_in v c.before.before.args.k) (sym c.enum-told2.given.1)
+returns_2 : tie.Need-returns-in-Two
+returns_2 c = ap (λ (v : Version). start_in v c.args.k) (sym c.in-Two.is)
 
 pub record_start_spec : {M : Type 1} → statement M
 record_start_spec =

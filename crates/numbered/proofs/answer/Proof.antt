@@ -9,21 +9,21 @@ use Rattle.numbered.proofs.Lent.{refused_so, too_few, told}
 use Rattle.numbered.proofs.answer.Statement.{statement}
 use Rattle.numbered.proofs.answer.Tie as tie
 
-returns : tie.Need-returns
+returns : tie.Need-returns-then-numbers-lt-COUNT
 returns c =
-    let s = c.before.before.before.before in
-    too_few s.args.numbers.now c.before.before.back2.given.1 c.if1.true
+    let s = c in
+    too_few s.args.numbers.now c.in-Found.is c.if-numbers-lt-COUNT.true
 
-returns_2 : tie.Need-returns-2
-returns_2 c = refused_so c.before.before.before.args.numbers.now c.before.back.given.1
+returns_2 : tie.Need-returns-in-Refused
+returns_2 c = refused_so c.args.numbers.now c.in-Refused.is
 
-returns_3 : tie.Need-returns-3
+returns_3 : tie.Need-returns-else-numbers-lt-COUNT
 returns_3 c =
-    let p = c.before in
-    let n = p.before in
-    let e = n.before.before in
-    let s = e.before.before.before.before in
-    told s.args.numbers.now e.before.before.back2.given.1 e.if1.false (p.put-numbers.ensures ∙ ap (λ (q : List ℤ). q ++ drop numbers_count s.args.numbers.now) n.numbers_of.ensures)
+    let p = c in
+    let n = p in
+    let e = n in
+    let s = e in
+    told s.args.numbers.now e.in-Found.is e.if-numbers-lt-COUNT.false (p.put_numbers.ensures ∙ ap (λ (q : List ℤ). q ++ drop numbers_count s.args.numbers.now) n.numbers_of.ensures)
 
 pub answer_spec : {M : Type 1} → statement M
 answer_spec =

@@ -5,11 +5,11 @@ use Rattle.numbered.specs.Numbers.{refusal_of}
 use Rattle.numbered.proofs.judge.Statement.{statement}
 use Rattle.numbered.proofs.judge.Tie as tie
 
-returns : tie.Need-returns
-returns c = sym (ap refusal_of (sym c.before.before.judge-list.ensures ∙ c.enum_told.given.1))
+returns : tie.Need-returns-in-Good
+returns c = sym (ap refusal_of (sym c.judge_list-found.ensures ∙ c.in-Good.is))
 
-returns_2 : tie.Need-returns-2
-returns_2 c = sym (ap refusal_of (sym c.before.before.before.judge-list.ensures ∙ c.before.found.given.1))
+returns_2 : tie.Need-returns-in-Refused
+returns_2 c = sym (ap refusal_of (sym c.judge_list-found.ensures ∙ c.in-Refused.is))
 
 pub judge_spec : {M : Type 1} → statement M
 judge_spec = tie.close (tie.spec (λ c κs. search rules) (λ c. search rules) (λ c. search rules) returns returns_2)

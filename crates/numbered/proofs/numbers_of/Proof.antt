@@ -18,27 +18,27 @@ same_z_lem s = search rules
 returns : tie.Need-returns
 unfolding numbers_of
 returns c =
-    let p = c.before in
-    let v = p.before in
-    let z = v.before in
-    let x = v.before.before.before in
-    let f = v.before.before.before.before.before in
-    let k = v.before.before.before.before.before.before.before in
-    let s = k.before.before in
-    let kind : to_z w64 (of_z w64 k.of-u32.result) ≡ k.of-u32.result = search rules in
-    let flags : to_z w64 (of_z w64 f.of-u322.result) ≡ f.of-u322.result = search rules in
-    let at_x : to_z w64 (of_z w64 x.of-i32.result) ≡ x.of-i32.result = search rules in
-    let at_z : to_z w64 (of_z w64 z.of-i322.result) ≡ z.of-i322.result = search rules in
-    let value : to_z w64 (of_z w64 v.of-u323.result) ≡ v.of-u323.result = search rules in
-    let e0 = kind ∙ k.of-u32.ensures in
-    let e1 = flags ∙ f.of-u322.ensures in
-    let e2 = at_x ∙ x.of-i32.ensures ∙ same_x s in
-    let e3 = at_z ∙ z.of-i322.ensures ∙ same_z_lem s in
-    let e4 = value ∙ v.of-u323.ensures in
-    let program : to_z w64 (of_z w64 p.program-of.result) ≡ p.program-of.result = search rules in
-    let block : to_z w64 (of_z w64 c.Block-of.result) ≡ c.Block-of.result = search rules in
-    let e5 = program ∙ p.program-of.ensures in
-    let e6 = block ∙ c.Block-of.ensures in
+    let p = c in
+    let v = p in
+    let z = v in
+    let x = v in
+    let f = v in
+    let k = v in
+    let s = k in
+    let kind : to_z w64 (of_z w64 k.of_u32-kind.result) ≡ k.of_u32-kind.result = search rules in
+    let flags : to_z w64 (of_z w64 f.of_u32-flags.result) ≡ f.of_u32-flags.result = search rules in
+    let at_x : to_z w64 (of_z w64 x.of_i32-x.result) ≡ x.of_i32-x.result = search rules in
+    let at_z : to_z w64 (of_z w64 z.of_i32-z.result) ≡ z.of_i32-z.result = search rules in
+    let value : to_z w64 (of_z w64 v.of_u32-value.result) ≡ v.of_u32-value.result = search rules in
+    let e0 = kind ∙ k.of_u32-kind.ensures in
+    let e1 = flags ∙ f.of_u32-flags.ensures in
+    let e2 = at_x ∙ x.of_i32-x.ensures ∙ same_x s.before.before.before.before.before.before.before.before.before.before.before in
+    let e3 = at_z ∙ z.of_i32-z.ensures ∙ same_z_lem s.before.before.before.before.before.before.before.before.before.before.before in
+    let e4 = value ∙ v.of_u32-value.ensures in
+    let program : to_z w64 (of_z w64 p.program_of-program.result) ≡ p.program_of-program.result = search rules in
+    let block : to_z w64 (of_z w64 c.block_of-block.result) ≡ c.block_of-block.result = search rules in
+    let e5 = program ∙ p.program_of-program.ensures in
+    let e6 = block ∙ c.block_of-block.ensures in
     λ i. e0 i ∷ e1 i ∷ e2 i ∷ e3 i ∷ e4 i ∷ e5 i ∷ e6 i ∷ []
 
 pub numbers_of_spec : {M : Type 1} → statement M

@@ -5,7 +5,7 @@ use Rattle.whole.proofs.Held.{held, is, cast, cast_need}
 use Rattle.numbered.proofs.of_i32.Statement.{statement}
 use Rattle.numbered.proofs.of_i32.Tie as tie
 
-cast_result : tie.Need-overflow-cast-result
+cast_result : tie.Need-overflow_cast-result
 cast_result c = cast_need (held c.ranges.v) w64 (widen c.ranges.v)
 
 returns : tie.Need-returns

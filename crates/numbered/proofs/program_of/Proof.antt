@@ -7,13 +7,13 @@ use Rattle.numbered.specs.Numbers.{program_of}
 use Rattle.numbered.proofs.program_of.Statement.{statement}
 use Rattle.numbered.proofs.program_of.Tie as tie
 
-returns : tie.Need-returns
+returns : tie.Need-returns-in-From
 returns c =
-    let same : to_z w64 (of_z w64 c.of-u32.result) ≡ c.of-u32.result = search rules in
-    same ∙ c.of-u32.ensures ∙ sym (ap program_of c.before.before.before.source.given.1)
+    let same : to_z w64 (of_z w64 c.of_u32.result) ≡ c.of_u32.result = search rules in
+    same ∙ c.of_u32.ensures ∙ sym (ap program_of c.in-From.is)
 
-returns_2 : tie.Need-returns-2
-returns_2 c = sym (ap program_of c.enum_told.given.1)
+returns_2 : tie.Need-returns-in-Untold
+returns_2 c = sym (ap program_of c.in-Untold.is)
 
 pub program_of_spec : {M : Type 1} → statement M
 program_of_spec = tie.close (tie.spec (λ c. search rules) (λ c. search rules) (λ c κs. search rules) (λ c. search rules) returns returns_2)

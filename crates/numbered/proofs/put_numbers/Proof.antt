@@ -14,9 +14,9 @@ use Rattle.numbered.proofs.put_numbers.Tie as tie
 
 returns : tie.Need-returns
 returns c =
-    let s = c.before.before.before.before.before.before.before in
+    let s = c in
     let l = s.args.numbers.now in
-    let w = s.args.t2 in
+    let w = s.args.seven in
     let e0 : to_z w64 (of_z w64 (get_or w 0 (pos 0))) ≡ get_or w 0 (pos 0) = search rules in
     let e1 : to_z w64 (of_z w64 (get_or w 1 (pos 0))) ≡ get_or w 1 (pos 0) = search rules in
     let e2 : to_z w64 (of_z w64 (get_or w 2 (pos 0))) ≡ get_or w 2 (pos 0) = search rules in

@@ -9,10 +9,10 @@ use Rattle.numbered.proofs.read_judged.Tie as tie
 
 returns : tie.Need-returns
 returns c =
-    let p = c.before in
-    let r = p.before.before in
-    let l = r.before.before.args.numbers.now in
-    let e = r.read-judged.ensures in
+    let p = c in
+    let r = p in
+    let l = r.args.numbers.now in
+    let e = r.read_judged.ensures in
     (p.answer.ensures.0 ∙ ap (λ (q : ReadBack). answer_of q (length l)) e, p.answer.ensures.1 ∙ ap (λ (q : ReadBack). numbers_after q l) e)
 
 pub read_judged_spec : {M : Type 1} → statement M

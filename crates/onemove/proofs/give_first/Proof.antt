@@ -1,7 +1,7 @@
 -- `onemove::give_first` meets its contract.
 use mathlib.Core.Path.{subst}
 use borrow.Author.Rules.{rules}
-use Rattle.holding.specs.Held.{Held}
+use Rattle.stepping.specs.of_holding.Held.{Held}
 use Rattle.onemove.proofs.Giving.{first_move, first_over, never_running}
 use Rattle.onemove.proofs.give_first.Statement.{statement}
 use Rattle.onemove.proofs.give_first.Tie as tie

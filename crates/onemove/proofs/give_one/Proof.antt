@@ -1,6 +1,6 @@
 -- `onemove::give_one` meets its contract.
 use borrow.Author.Rules.{rules}
-use Rattle.taking.specs.declared.Hand.TheVariants.{Block}
+use Rattle.packing.specs.of_taking.declared.Hand.TheVariants.{Block}
 use Rattle.onemove.proofs.Giving.{one_last, one_more}
 use Rattle.onemove.proofs.give_one.Statement.{statement}
 use Rattle.onemove.proofs.give_one.Tie as tie

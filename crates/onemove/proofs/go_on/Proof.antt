@@ -12,10 +12,10 @@ use Rattle.settings.specs.Known.{Right}
 use Rattle.panel.proofs.Rows.{all_there}
 use Rattle.settings.proofs.Right.{right, right_points}
 use Rattle.telling.proofs.Tells.{told_no}
-use Rattle.runwords.specs.Taken.{going_of}
+use Rattle.runbounds.specs.of_runwords.Taken.{going_of}
 use Rattle.runbounds.proofs.Keeping.{kept_small}
-use Rattle.paused.specs.declared.Going.{Going}
-use Rattle.paused.specs.declared.Phase.TheVariants.{Running}
+use Rattle.runbounds.specs.of_paused.declared.Going.{Going}
+use Rattle.runbounds.specs.of_paused.declared.Phase.TheVariants.{Running}
 use Rattle.inhand.specs.State.{run_in}
 use Rattle.onemove.specs.OneMove.{CanGoOn, CanTell}
 use Rattle.onemove.proofs.Asking.{to_end, run_is, unfit_ask, wrong_ask, cannot_ask, turned_ask}

@@ -8,9 +8,9 @@ use lib.Seq.{length-take-le}
 use borrow.Author.Rules.{rules}
 use borrow.Author.Tests.{not-true, not-false}
 use Rattle.telling.proofs.Tells.{told_no}
-use Rattle.runwords.specs.Taken.{phase_of}
-use Rattle.paused.specs.Kept.{Answers}
-use Rattle.taking.specs.declared.Hand.TheVariants.{Nothing}
+use Rattle.runbounds.specs.of_runwords.Taken.{phase_of}
+use Rattle.runbounds.specs.of_paused.Kept.{Answers}
+use Rattle.packing.specs.of_taking.declared.Hand.TheVariants.{Nothing}
 use Rattle.inhand.specs.State.{state_words, hand_in, run_in}
 use Rattle.onemove.proofs.Asking.{to_end, empty_hand, run_phase, given_ask, not_given_ask, over_ask, unfitting_ask, next_other, next_short, next_asks}
 use Rattle.onemove.proofs.next.Statement.{statement}

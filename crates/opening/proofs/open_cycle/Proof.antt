@@ -7,22 +7,22 @@ use Rattle.opening.proofs.Opening.{turning_opens, threading_opens, grooving_open
 use Rattle.opening.proofs.open_cycle.Statement.{statement}
 use Rattle.opening.proofs.open_cycle.Tie as tie
 
-open_requires_2 : tie.Need-open-requires-2
-open_requires_2 c κs = let is = c.before.c2.given.1 in let h = c.before.before.before.requires in ((known is h.1).3, right is h.0)
+open_requires_2 : tie.Need-open-requires-in-Threading
+open_requires_2 c κs = let is = c.in-Threading.is in let h = c.requires in ((known is h.1).3, right is h.0)
 
 pub open_cycle_spec : {M : Type 1} → statement M
 open_cycle_spec =
     tie.close
     (tie.spec
     (λ c. search rules)
-    (λ c κs. right c.before.c.given.1 c.before.before.before.requires.0)
+    (λ c κs. right c.in-Turning.is c.requires.0)
     (λ c. search rules)
     open_requires_2
     (λ c. search rules)
-    (λ c κs. right c.before.c3.given.1 c.before.before.before.requires.0)
+    (λ c κs. right c.in-Grooving.is c.requires.0)
     (λ c. search rules)
-    (λ c κs. right c.before.c4.given.1 c.before.before.before.requires.0)
-    (λ c. turning_opens (c.open.ensures.0 ∙ ap records (sym c.before.before.c.given.1)) c.open.ensures.1)
-    (λ c. threading_opens (c.open2.ensures.0 ∙ ap records (sym c.before.before.c2.given.1)) c.open2.ensures.1)
-    (λ c. grooving_opens (c.open3.ensures.0 ∙ ap records (sym c.before.before.c3.given.1)) c.open3.ensures.1)
-    (λ c. drilling_opens (c.open4.ensures.0 ∙ ap records (sym c.before.before.c4.given.1)) c.open4.ensures.1))
+    (λ c κs. right c.in-Drilling.is c.requires.0)
+    (λ c. turning_opens (c.open.ensures.0 ∙ ap records (sym c.in-Turning.is)) c.open.ensures.1)
+    (λ c. threading_opens (c.open-in-Threading.ensures.0 ∙ ap records (sym c.in-Threading.is)) c.open-in-Threading.ensures.1)
+    (λ c. grooving_opens (c.open-in-Grooving.ensures.0 ∙ ap records (sym c.in-Grooving.is)) c.open-in-Grooving.ensures.1)
+    (λ c. drilling_opens (c.open-in-Drilling.ensures.0 ∙ ap records (sym c.in-Drilling.is)) c.open-in-Drilling.ensures.1))

@@ -7,7 +7,7 @@ use Rattle.opening.proofs.own_of_round.Tie as tie
 
 returns : tie.Need-returns
 unfolding own_of_round
-returns c = λ i. record { goes = c.before.end-record.ensures i; centre = c.centre-record.ensures i; has_centre = true }
+returns c = λ i. record { goes = c.end_record-goes.ensures i; centre = c.centre_record-centre.ensures i; has_centre = true }
 
 pub own_of_round_spec : {M : Type 1} → statement M
 own_of_round_spec = tie.close (tie.spec (λ c κs. search rules) (λ c κs. search rules) returns)

@@ -12,34 +12,34 @@ use Rattle.opening.proofs.plan_of.Tie as tie
 fits : (s : tie.Start) → SFits w32 s.args.s.x × SFits w32 s.args.s.z
 fits s = (search rules, search rules)
 
-fits_behind : (m : tie.After-done-of) → SFits w32 m.done-of.result.x × SFits w32 m.done-of.result.z
+fits_behind : (m : tie.After-done_of-behind) → SFits w32 m.done_of-behind.result.x × SFits w32 m.done_of-behind.result.z
 fits_behind m = (search rules, search rules)
 
 returns : tie.Need-returns
 returns c =
-    let codes = c.before.before.before.before.before in
-    let o = codes.before.before.before.before.before in
-    let made = o.before.before.before in
-    let after = made.done-of in
-    let at = fits made.before in
-    let behind = fits_behind made in
+    let codes = c in
+    let o = codes in
+    let made = o in
+    let after = made.done_of-behind in
+    let at = fits made.before.before.before.before.before.before.before.before.before.before.before.before.before.before in
+    let behind = fits_behind made.before.before.before.before.before.before.before.before.before.before.before.before.before in
     record {
       x = to_z-of_z at.0;
       z = to_z-of_z at.1;
       g96 = refl;
-      speed = codes.before.before.before.before.Code-in.ensures;
-      tool = codes.before.before.before.code-in2.ensures;
-      spindle = codes.before.before.code-in3.ensures;
-      coolant = codes.before.code-in4.ensures;
-      stop = codes.code-in5.ensures;
+      speed = codes.code_in.ensures;
+      tool = codes.code_in-2.ensures;
+      spindle = codes.code_in-3.ensures;
+      coolant = codes.code_in-4.ensures;
+      stop = codes.code_in-5.ensures;
       x_behind = to_z-of_z behind.0 ∙ ap (λ (t : State). t.x) after.ensures;
       z_behind = to_z-of_z behind.1 ∙ ap (λ (t : State). t.z) after.ensures;
-      has_tool = c.before.before.before.before.has.ensures;
-      has_spindle = c.before.before.before.has2.ensures;
-      has_coolant = c.before.before.has3.ensures;
-      stops = o.before.before.stops.ensures;
-      own = o.before.own_of_lem.ensures;
-      deed = o.open-deed.ensures;
+      has_tool = c.has.ensures;
+      has_spindle = c.has-2.ensures;
+      has_coolant = c.has-3.ensures;
+      stops = o.stops-stops.ensures;
+      own = o.own_of-own.ensures;
+      deed = o.open_deed-deed.ensures;
     }
 
 pub plan_of_spec : {M : Type 1} → statement M

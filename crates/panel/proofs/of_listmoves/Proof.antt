@@ -6,7 +6,7 @@ use Rattle.panel.proofs.of_listmoves.Statement.{statement}
 use Rattle.panel.proofs.of_listmoves.Tie as tie
 
 returns : tie.Need-returns
-returns c = c.settings-of.ensures ∙ ap settings_of c.before.before.row-of-listmoves.ensures
+returns c = c.settings_of.ensures ∙ ap settings_of c.row_of_listmoves-row.ensures
 
 pub of_listmoves_spec : {M : Type 1} → statement M
 of_listmoves_spec = tie.close (tie.spec (λ c κs. search rules) (λ c. search rules) (λ c κs. search rules) returns)

@@ -17,27 +17,27 @@ read v = to_z w32 (of_z w32 v)
 
 returns : tie.Need-returns
 returns c =
-    let n : List ℤ = c.before.before.before.before.before.before.before.before.before.before.before.before.before.before.before.args.numbers.now in
-    let main : read (at n 0) ≡ at n 0 = to_z-of_z (sfits_of {w = w32} c.before.before.before.before.before.before.before.before.before.before.magnitude-arg5.given) in
-    let lowest : read (at n 1) ≡ at n 1 = to_z-of_z (sfits_of {w = w32} c.before.before.before.before.before.before.before.before.magnitude-arg6.given) in
-    let retract : read (at n 2) ≡ at n 2 = to_z-of_z (sfits_of {w = w32} c.before.before.before.before.before.before.magnitude-arg7.given) in
-    let x : read (at n 3) ≡ at n 3 = to_z-of_z (sfits_of {w = w32} c.before.before.before.before.t18.given) in
-    let z : read (at n 4) ≡ at n 4 = to_z-of_z (sfits_of {w = w32} c.before.before.before.t20.given) in
-    let xlow : read (at n 5) ≡ at n 5 = to_z-of_z (sfits_of {w = w32} c.before.before.before.before.before.before.before.before.before.before.before.before.before.before.magnitude-arg.given) in
-    let xhigh : read (at n 6) ≡ at n 6 = to_z-of_z (sfits_of {w = w32} c.before.before.before.before.before.before.before.before.before.before.before.before.before.magnitude-arg2.given) in
-    let zlow : read (at n 7) ≡ at n 7 = to_z-of_z (sfits_of {w = w32} c.before.before.before.before.before.before.before.before.before.before.before.before.magnitude-arg3.given) in
-    let zhigh : read (at n 8) ≡ at n 8 = to_z-of_z (sfits_of {w = w32} c.before.before.before.before.before.before.before.before.before.before.before.magnitude-arg4.given) in
-    let empty : read (at n 9) ≡ at n 9 = to_z-of_z (sfits_of {w = w32} c.before.before.magnitude-arg8.given) in
-    let points : read (at n 10) ≡ at n 10 = to_z-of_z (sfits_of {w = w32} c.t26.given) in
+    let n : List ℤ = c.args.numbers.now in
+    let main : read (at n 0) ≡ at n 0 = to_z-of_z (sfits_of {w = w32} c.magnitude-arg-1.given) in
+    let lowest : read (at n 1) ≡ at n 1 = to_z-of_z (sfits_of {w = w32} c.magnitude-arg-2-1.given) in
+    let retract : read (at n 2) ≡ at n 2 = to_z-of_z (sfits_of {w = w32} c.magnitude-arg-3-1.given) in
+    let x : read (at n 3) ≡ at n 3 = to_z-of_z (sfits_of {w = w32} c.result-1.given) in
+    let z : read (at n 4) ≡ at n 4 = to_z-of_z (sfits_of {w = w32} c.result-2-1.given) in
+    let xlow : read (at n 5) ≡ at n 5 = to_z-of_z (sfits_of {w = w32} c.x-1.given) in
+    let xhigh : read (at n 6) ≡ at n 6 = to_z-of_z (sfits_of {w = w32} c.x-2-1.given) in
+    let zlow : read (at n 7) ≡ at n 7 = to_z-of_z (sfits_of {w = w32} c.z-1.given) in
+    let zhigh : read (at n 8) ≡ at n 8 = to_z-of_z (sfits_of {w = w32} c.z-2-1.given) in
+    let empty : read (at n 9) ≡ at n 9 = to_z-of_z (sfits_of {w = w32} c.magnitude-arg-4-1.given) in
+    let points : read (at n 10) ≡ at n 10 = to_z-of_z (sfits_of {w = w32} c.result-3-1.given) in
     λ i.
     record {
-      main = (c.before.before.before.before.before.before.before.before.before.magnitude.ensures ∙ ap nat_abs main) i;
-      lowest_subroutine = (c.before.before.before.before.before.before.before.magnitude2.ensures ∙ ap nat_abs lowest) i;
-      retract = (c.before.before.before.before.before.magnitude3.ensures ∙ ap nat_abs retract) i;
+      main = (c.magnitude.ensures ∙ ap nat_abs main) i;
+      lowest_subroutine = (c.magnitude-2.ensures ∙ ap nat_abs lowest) i;
+      retract = (c.magnitude-3.ensures ∙ ap nat_abs retract) i;
       x = x i;
       z = z i;
       limits = record { x = record { lowest = xlow i; highest = xhigh i }; z = record { lowest = zlow i; highest = zhigh i } };
-      empty_cuts = (c.before.magnitude4.ensures ∙ ap nat_abs empty) i;
+      empty_cuts = (c.magnitude-4.ensures ∙ ap nat_abs empty) i;
       points = lt_z (pos 0) (points i);
     }
 

@@ -14,23 +14,23 @@ use Rattle.panel.proofs.Rows.{other_length, are_there}
 use Rattle.panel.proofs.unfit.Statement.{statement}
 use Rattle.panel.proofs.unfit.Tie as tie
 
-returns : tie.Need-returns
-returns c = other_length c.before.args.numbers.now c.if1.true
+returns : tie.Need-returns-then-numbers-ne-COUNT
+returns c = other_length c.args.numbers.now c.if-numbers-ne-COUNT.true
 
 -- a number as it is read back from its bits
 abbrev read : ℤ → ℤ
 read v = to_z w32 (of_z w32 v)
 
-returns_2 : tie.Need-returns-2
+returns_2 : tie.Need-returns
 returns_2 c =
-    let n : List ℤ = c.before.before.before.before.before.before.args.numbers.now in
+    let n : List ℤ = c.args.numbers.now in
     let below : (k : ℕ) → read (at n k) ≡ at n k → lt_z (read (at n k)) (pos 0) ≡ is_below n k = λ k e. ap (λ (z : ℤ). lt_z z (pos 0)) e in
-    let points : read (at n 10) ≡ at n 10 = to_z-of_z (sfits_of {w = w32} c.points.given) in
-    are_there n c.before.before.before.before.before.if1.false
-    (below 0 (to_z-of_z (sfits_of {w = w32} c.before.before.before.before.below.given)))
-    (below 1 (to_z-of_z (sfits_of {w = w32} c.before.before.before.below2.given)))
-    (below 2 (to_z-of_z (sfits_of {w = w32} c.before.before.below3.given)))
-    (below 9 (to_z-of_z (sfits_of {w = w32} c.before.below4.given)))
+    let points : read (at n 10) ≡ at n 10 = to_z-of_z (sfits_of {w = w32} c.points-1.given) in
+    are_there n c.if-numbers-ne-COUNT.false
+    (below 0 (to_z-of_z (sfits_of {w = w32} c.below-1.given)))
+    (below 1 (to_z-of_z (sfits_of {w = w32} c.below-2-1.given)))
+    (below 2 (to_z-of_z (sfits_of {w = w32} c.below-3-1.given)))
+    (below 9 (to_z-of_z (sfits_of {w = w32} c.below-4-1.given)))
     (λ i. lt_z (points i) (pos 0) || lt_z (pos 1) (points i))
 
 pub unfit_spec : {M : Type 1} → statement M

@@ -21,11 +21,11 @@ across_held s = search rules
 returns : tie.Need-returns
 unfolding rest_at
 returns c =
-    let s = c.before.before.before.before.before in
+    let s = c in
     let p = s.args.c.pass in
     within s.args.c s.requires.0 s.requires.1 Out refl
-    (c.before.feed-to.ensures ∙ λ i. feed_to p.facing p.f p.g95 (to_z-of_z (inward_held s) i) (to_z-of_z (across_held s) i))
-    c.at_stage.ensures
+    (c.feed_to-record.ensures ∙ λ i. feed_to p.facing p.f p.g95 (to_z-of_z (inward_held s.before.before.before.before.before) i) (to_z-of_z (across_held s.before.before.before.before.before) i))
+    c.at_stage-rest.ensures
 
 pub cut_spec : {M : Type 1} → statement M
 cut_spec = tie.close (tie.spec (λ c κs. search rules) (λ c κs. search rules) returns)

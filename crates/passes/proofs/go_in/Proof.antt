@@ -18,24 +18,24 @@ line_held s = search rules
 home_held : (s : tie.Start) → SFits w32 s.args.c.pass.home
 home_held s = search rules
 
-step_requires : tie.Need-step-requires
+step_requires : tie.Need-step-line-requires
 step_requires c κs =
-    let h = c.before in
-    let s = h.before.before.before in
-    let f = line_held s in
-    subst (SFits w32) (ap (λ (l : ℤ). l +ℤ along s.args.c.side h.hand-out.result.piece) (sym (to_z-of_z f)))
-    (line_next_fits s.args.c s.requires.0 h.hand-out.result.rest h.hand-out.ensures f)
+    let h = c in
+    let s = h in
+    let f = line_held s.before.before.before.before in
+    subst (SFits w32) (ap (λ (l : ℤ). l +ℤ along s.args.c.side h.hand_out-handed.result.piece) (sym (to_z-of_z f)))
+    (line_next_fits s.args.c s.requires.0 h.hand_out-handed.result.rest h.hand_out-handed.ensures f)
 
 returns : tie.Need-returns
 returns c =
-    let r = c.before in
-    let t = r.before.before in
-    let h = t.before.before in
-    let s = h.before.before.before in
+    let r = c in
+    let t = r in
+    let h = t in
+    let s = h in
     let k = s.args.c in
-    let line = to_z-of_z (sfits_of {w = w32} t.step.type-inv) ∙ t.step.ensures ∙ ap (λ (l : ℤ). l +ℤ along k.side h.hand-out.result.piece) (to_z-of_z (line_held s)) in
-    goes_in k s.requires.0 h.hand-out.result.rest h.hand-out.ensures s.requires.1 line
-    (r.rapid-to.ensures ∙ ap (rapid_to k.pass.facing _) (to_z-of_z (home_held s)))
+    let line = to_z-of_z (sfits_of {w = w32} t.step-line.type_inv) ∙ t.step-line.ensures ∙ ap (λ (l : ℤ). l +ℤ along k.side h.hand_out-handed.result.piece) (to_z-of_z (line_held s.before.before.before.before.before.before.before.before)) in
+    goes_in k s.requires.0 h.hand_out-handed.result.rest h.hand_out-handed.ensures s.requires.1 line
+    (r.rapid_to-record.ensures ∙ ap (rapid_to k.pass.facing _) (to_z-of_z (home_held s.before.before.before.before.before.before.before.before)))
     refl
 
 pub go_in_spec : {M : Type 1} → statement M

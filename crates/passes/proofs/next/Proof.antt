@@ -6,9 +6,9 @@ use Rattle.passes.proofs.Cursors.{some_left}
 use Rattle.passes.proofs.next.Statement.{statement}
 use Rattle.passes.proofs.next.Tie as tie
 
-go_in_requires : tie.Need-go-in-requires
+go_in_requires : tie.Need-go_in-requires
 go_in_requires c κs =
-    let s = c.before.before in
+    let s = c in
     let e : s.args.c.stage ≡ In = search rules in
     (s.requires.0, e, some_left s.args.c s.requires.1 e)
 

@@ -4,7 +4,7 @@ use Rattle.passes.proofs.Cursors.{no_pass_begun, some_left, four_make}
 use Rattle.passes.proofs.next_pass.Statement.{statement}
 use Rattle.passes.proofs.next_pass.Tie as tie
 
-go_in_requires : tie.Need-go-in-requires
+go_in_requires : tie.Need-go_in-first-requires
 go_in_requires c κs =
     let k = c.args.c in
     let stage = no_pass_begun k c.requires.1 in
@@ -12,11 +12,11 @@ go_in_requires c κs =
 
 returns : tie.Need-returns
 returns c =
-    let fourth = c.before.before in
-    let third = fourth.before.before.before in
-    let second = third.before.before.before in
-    let first = second.before.before.before in
-    four_make first.go-in.ensures.0 second.cut.ensures.0 third.go-out.ensures.0 fourth.go-back.ensures.0 fourth.go-back.ensures.1
+    let fourth = c in
+    let third = fourth in
+    let second = third in
+    let first = second in
+    four_make first.go_in-first.ensures.0 second.cut-second.ensures.0 third.go_out-third.ensures.0 fourth.go_back-fourth.ensures.0 fourth.go_back-fourth.ensures.1
 
 pub next_pass_spec : {M : Type 1} → statement M
 next_pass_spec = tie.close (tie.spec go_in_requires (λ c κs. search rules) (λ c κs. search rules) (λ c κs. search rules) returns)

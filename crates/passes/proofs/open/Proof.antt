@@ -23,35 +23,35 @@ stands : (s : tie.Start) → Stands s.args.c.infeed
 stands s = record { start = search rules; target = search rules }
 
 -- ---- what the calls gave, of the cycle itself
-the_side : (c : tie.After-side-of) → c.side-of.result ≡ side c.before.before.before.before.before.args.c.infeed
-the_side c = c.side-of.ensures ∙ search rules
+the_side : (c : tie.After-side_of-side) → c.side_of-side.result ≡ side c.args.c.infeed
+the_side c = c.side_of-side.ensures ∙ search rules
 
-the_count : (c : tie.After-pass-count) → let s = c.before.before.before.before.before.before.before in c.pass-count.result ≡ pass_count (net s.args.c.infeed) s.args.c.division
+the_count : (c : tie.After-pass_count-n) → let s = c in c.pass_count-n.result ≡ pass_count (net s.args.c.infeed) s.args.c.division
 the_count c =
-    let s = c.before.before.before.before.before.before.before in
-    c.pass-count.ensures ∙ ap (λ (e : ℕ). pass_count e s.args.c.division) c.before.net-of.ensures
+    let s = c in
+    c.pass_count-n.ensures ∙ ap (λ (e : ℕ). pass_count e s.args.c.division) c.net_of-e.ensures
 
-pass_count_requires : tie.Need-pass-count-requires
-pass_count_requires c κs = let s = c.before.before.before.before.before.before in omega (arith, c.net-of.ensures, (long_enough s.args.c s.requires).0)
+pass_count_requires : tie.Need-pass_count-n-requires
+pass_count_requires c κs = let s = c in omega (arith, c.net_of-e.ensures, (long_enough s.args.c s.requires).0)
 
-divide_requires : tie.Need-divide-requires
+divide_requires : tie.Need-divide-depths-requires
 divide_requires c κs =
-    let s = c.before.before.before.before.before.before.before in
+    let s = c in
     let k = s.args.c in
     omega (arith, the_count c, some_passes (net k.infeed) k.division (long_enough k s.requires).0)
 
 returns : tie.Need-returns
 returns c =
-    let n = c.before in
-    let e = n.before in
-    let d = e.before in
-    let p = d.before.before in
-    let s = d.before.before.before.before.before in
+    let n = c in
+    let e = n in
+    let d = e in
+    let p = d in
+    let s = d in
     let k = s.args.c in
-    let depths : row_of c.divide.result ≡ row k = c.divide.ensures ∙ (λ i. pieces (e.net-of.ensures i) (the_count n i)) in
+    let depths : row_of c.divide-depths.result ≡ row k = c.divide-depths.ensures ∙ (λ i. pieces (e.net_of-e.ensures i) (the_count n.before i)) in
     subst (λ (o : Cursor). (rest_of o ≡ turning k) × Sound o)
-    (sym (λ i. record { pass = p.pass_of.ensures i; side = the_side d i; line = to_z-of_z (stands s).start i; depths = c.divide.result; stage = In }))
-    (opens k c.divide.result s.requires (stands s) depths)
+    (sym (λ i. record { pass = p.pass_of-pass.ensures i; side = the_side d.before.before.before i; line = to_z-of_z (stands s.before.before.before.before.before.before.before.before).start i; depths = c.divide-depths.result; stage = In }))
+    (opens k c.divide-depths.result s.requires (stands s.before.before.before.before.before.before.before.before) depths)
 
 pub open_spec : {M : Type 1} → statement M
 open_spec =

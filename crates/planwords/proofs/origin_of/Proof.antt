@@ -7,11 +7,11 @@ use Rattle.planwords.proofs.origin_of.Tie as tie
 returns : tie.Need-returns
 unfolding origin_of
 returns c =
-    let program = c.before in
+    let program = c in
     λ i.
     record {
-      program = program.short-at.ensures i;
-      block = c.short-at2.ensures i;
+      program = program.short_at.ensures i;
+      block = c.short_at-2.ensures i;
     }
 
 pub origin_of_spec : {M : Type 1} → statement M

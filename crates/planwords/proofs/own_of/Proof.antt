@@ -5,12 +5,12 @@ use Rattle.planwords.proofs.own_of.Tie as tie
 
 returns : tie.Need-returns
 returns c =
-    let centre = c.before in
-    let goes = centre.before in
+    let centre = c in
+    let goes = centre in
     λ i.
     record {
-      goes = goes.record-at.ensures i;
-      centre = centre.record-at2.ensures i;
+      goes = goes.record_at-goes.ensures i;
+      centre = centre.record_at-centre.ensures i;
       has_centre = c.flag_at.ensures i;
     }
 

@@ -5,10 +5,10 @@ use Rattle.planwords.proofs.own_words.Tie as tie
 
 returns : tie.Need-returns
 returns c =
-    let centre = c.before in
-    let goes = centre.before in
-    let s = goes.before in
-    λ i. record { goes = goes.record-words.ensures i; centre = centre.record-words2.ensures i; has_centre = c.flag_word.ensures i }
+    let centre = c in
+    let goes = centre in
+    let s = goes in
+    λ i. record { goes = goes.record_words-goes.ensures i; centre = centre.record_words-centre.ensures i; has_centre = c.flag_word-has_centre.ensures i }
 
 pub own_words_spec : {M : Type 1} → statement M
 own_words_spec =

@@ -20,24 +20,24 @@ held s = record { x = search rules; z = search rules }
 returns : tie.Need-returns
 unfolding plan_of origin_of
 returns c =
-    let own = c.before in
-    let z = own.before in
-    let x = z.before.before in
-    let block = x.before.before in
-    let program = block.before in
-    let s = program.before in
+    let own = c in
+    let z = own in
+    let x = z in
+    let block = x in
+    let program = block in
+    let s = program in
     let v = s.args.p in
-    let h = held s in
-    let t = c.tail-words.ensures in (
+    let h = held s.before.before.before.before.before.before.before.before.before in
+    let t = c.tail_words-tail.ensures in (
       λ d i.
           record {
-            x = (x.word_of.ensures ∙ to_z-of_z h.x) i;
-            z = (z.word-of2.ensures ∙ to_z-of_z h.z) i;
+            x = (x.word_of-x.ensures ∙ to_z-of_z h.x) i;
+            z = (z.word_of-z.ensures ∙ to_z-of_z h.z) i;
             speed = v.speed;
             tool = v.tool;
             spindle = v.spindle;
             coolant = v.coolant;
-            own = own.own-words.ensures i;
+            own = own.own_words-own.ensures i;
             x_behind = t.x i;
             z_behind = t.z i;
             stop = t.stop i;
@@ -48,7 +48,7 @@ returns c =
             g96 = t.g96 i;
             deed = d;
           },
-      λ i. record { program = program.short-word.ensures i; block = block.short-word2.ensures i },
+      λ i. record { program = program.short_word-program.ensures i; block = block.short_word-block.ensures i },
     )
 
 pub plan_words_spec : {M : Type 1} → statement M

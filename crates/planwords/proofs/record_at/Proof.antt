@@ -10,18 +10,18 @@ use Rattle.planwords.proofs.record_at.Tie as tie
 
 returns : tie.Need-returns
 returns c =
-    let z = c.before in
-    let x = z.before in
-    let flags = x.before in
-    let kind = flags.before in
-    let w = kind.before.before.args.w.now in
+    let z = c in
+    let x = z in
+    let flags = x in
+    let kind = flags in
+    let w = kind.args.w.now in
     λ i.
     record {
       kind = kind.byte_at.ensures i;
-      flags = flags.byte-at2.ensures i;
-      x = (to_z-of_z (sfits_of {w = w32} x.signed-at.type-inv) ∙ x.signed-at.ensures) i;
-      z = (to_z-of_z (sfits_of {w = w32} z.signed-at2.type-inv) ∙ z.signed-at2.ensures) i;
-      value = at w (kind.before.before.args.at + 4);
+      flags = flags.byte_at-2.ensures i;
+      x = (to_z-of_z (sfits_of {w = w32} x.signed_at.type_inv) ∙ x.signed_at.ensures) i;
+      z = (to_z-of_z (sfits_of {w = w32} z.signed_at-2.type_inv) ∙ z.signed_at-2.ensures) i;
+      value = at w (kind.args.at + 4);
     }
 
 pub record_at_spec : {M : Type 1} → statement M

@@ -18,18 +18,18 @@ held s = record { x = search rules; z = search rules }
 
 returns : tie.Need-returns
 returns c =
-    let x = c.before.before in
-    let flags = x.before.before in
-    let kind = flags.before in
-    let s = kind.before in
+    let x = c in
+    let flags = x in
+    let kind = flags in
+    let s = kind in
     let v = s.args.r in
-    let h = held s in
+    let h = held s.before.before.before.before.before.before in
     λ i.
     record {
-      kind = kind.byte_word.ensures i;
-      flags = flags.byte-word2.ensures i;
-      x = (x.word_of.ensures ∙ to_z-of_z h.x) i;
-      z = (c.word-of2.ensures ∙ to_z-of_z h.z) i;
+      kind = kind.byte_word-kind.ensures i;
+      flags = flags.byte_word-flags.ensures i;
+      x = (x.word_of-x.ensures ∙ to_z-of_z h.x) i;
+      z = (c.word_of-z.ensures ∙ to_z-of_z h.z) i;
       value = v.value;
     }
 

@@ -18,23 +18,23 @@ held s = record { x = search rules; z = search rules }
 
 returns : tie.Need-returns
 returns c =
-    let stops = c.before in
-    let coolant = stops.before in
-    let spindle = coolant.before in
-    let tool = spindle.before in
-    let z = tool.before in
-    let x = z.before.before in
-    let s = x.before.before in
-    let h = held s in
+    let stops = c in
+    let coolant = stops in
+    let spindle = coolant in
+    let tool = spindle in
+    let z = tool in
+    let x = z in
+    let s = x in
+    let h = held s.before.before.before.before.before.before.before.before.before in
     record {
-      x = x.word_of.ensures ∙ to_z-of_z h.x;
-      z = z.word-of2.ensures ∙ to_z-of_z h.z;
+      x = x.word_of-x_behind.ensures ∙ to_z-of_z h.x;
+      z = z.word_of-z_behind.ensures ∙ to_z-of_z h.z;
       stop = refl;
-      tool = tool.flag_word.ensures;
-      spindle = spindle.flag-word2.ensures;
-      coolant = coolant.flag-word3.ensures;
-      stops = stops.flag-word4.ensures;
-      g96 = c.flag-word5.ensures;
+      tool = tool.flag_word-has_tool.ensures;
+      spindle = spindle.flag_word-has_spindle.ensures;
+      coolant = coolant.flag_word-has_coolant.ensures;
+      stops = stops.flag_word-stops.ensures;
+      g96 = c.flag_word-g96.ensures;
     }
 
 pub tail_words_spec : {M : Type 1} → statement M

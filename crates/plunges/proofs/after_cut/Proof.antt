@@ -7,6 +7,6 @@ pub after_cut_spec : {M : Type 1} → statement M
 after_cut_spec =
     tie.close
     (tie.spec
-    (λ c. simp (lt-ltb _ _ c.if1.true))
-    (λ c. simp (le-ltb _ _ c.before.if1.false, lt-ltb _ _ c.if2.true))
-    (λ c. simp (le-ltb _ _ c.before.if1.false, le-ltb _ _ c.if2.false)))
+    (λ c. simp (lt-ltb _ _ c.if-left-gt0.true))
+    (λ c. simp (le-ltb _ _ c.if-left-gt0.false, lt-ltb _ _ c.if-dwell-gt0.true))
+    (λ c. simp (le-ltb _ _ c.if-left-gt0.false, le-ltb _ _ c.if-dwell-gt0.false)))

@@ -16,34 +16,34 @@ use Rattle.plunges.proofs.cut.Tie as tie
 width_held : (s : tie.Start) → SFits w32 s.args.c.width
 width_held s = search rules
 
-hand_out_requires : tie.Need-hand-out-requires
-hand_out_requires c κs = let s = c.before.before.before.before in (is_ready s.args.c s.requires.0 s.requires.1, omega (arith, s.requires.0.reach, s.requires.0.far))
+hand_out_requires : tie.Need-hand_out-handed-requires
+hand_out_requires c κs = let s = c in (is_ready s.args.c s.requires.0 s.requires.1, omega (arith, s.requires.0.reach, s.requires.0.far))
 
-add_deep : tie.Need-overflow-add-deep
+add_deep : tie.Need-overflow_add-deep
 add_deep c =
-    let h = c.before.before in
-    let s = h.before.before.before.before.before in
-    omega (arith, reaches s.args.c s.requires.0 h.hand-out.result.rest h.hand-out.ensures, s.requires.0.far)
+    let h = c in
+    let s = h in
+    omega (arith, reaches s.args.c s.requires.0 h.hand_out-handed.result.rest h.hand_out-handed.ensures, s.requires.0.far)
 
-deep_at_requires : tie.Need-deep-at-requires
+deep_at_requires : tie.Need-deep_at-to-requires
 deep_at_requires c κs =
-    let h = c.before.before.before in
-    let s = h.before.before.before.before.before in
-    reaches s.args.c s.requires.0 h.hand-out.result.rest h.hand-out.ensures
+    let h = c in
+    let s = h in
+    reaches s.args.c s.requires.0 h.hand_out-handed.result.rest h.hand_out-handed.ensures
 
 returns : tie.Need-returns
 returns c =
-    let d = c.before.before in
-    let h = d.before.before.before.before in
-    let s = h.before.before.before.before.before in
+    let d = c in
+    let h = d in
+    let s = h in
     let k = s.args.c in
     let g = k.groove in
-    let to = to_z-of_z (sfits_of {w = w32} d.deep-at.type-inv) ∙ d.deep-at.ensures in (
-      cuts_on k s.requires.0 h.hand-out.result.rest h.hand-out.ensures s.requires.1 to
-          (c.before.feed-to.ensures ∙ ap (feed_to g.facing g.f g.g95 _) (to_z-of_z (width_held s)))
-          c.after-cut.ensures
-          (λ i. record { groove = g; stage = c.after-cut.result; width = to_z-of_z (width_held s) i; deep = k.deep + h.hand-out.result.piece; cuts = h.hand-out.result.rest; plunge = k.plunge; steps = k.steps; several = k.several }),
-      c.after-cut.ensures ∙ ap (λ (n : ℕ). after_cut n g.dwell) (one_fewer k s.requires.0 h.hand-out.result.rest h.hand-out.ensures),
+    let to = to_z-of_z (sfits_of {w = w32} d.deep_at-to.type_inv) ∙ d.deep_at-to.ensures in (
+      cuts_on k s.requires.0 h.hand_out-handed.result.rest h.hand_out-handed.ensures s.requires.1 to
+          (c.feed_to-record.ensures ∙ ap (feed_to g.facing g.f g.g95 _) (to_z-of_z (width_held s.before.before.before.before.before.before.before.before.before.before.before.before)))
+          c.after_cut-stage.ensures
+          (λ i. record { groove = g; stage = c.after_cut-stage.result; width = to_z-of_z (width_held s.before.before.before.before.before.before.before.before.before.before.before.before) i; deep = k.deep + h.hand_out-handed.result.piece; cuts = h.hand_out-handed.result.rest; plunge = k.plunge; steps = k.steps; several = k.several }),
+      c.after_cut-stage.ensures ∙ ap (λ (n : ℕ). after_cut n g.dwell) (one_fewer k s.requires.0 h.hand_out-handed.result.rest h.hand_out-handed.ensures),
     )
 
 pub cut_spec : {M : Type 1} → statement M

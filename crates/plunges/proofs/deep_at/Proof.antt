@@ -19,53 +19,53 @@ use Rattle.plunges.proofs.deep_at.Tie as tie
 no_step : (a : ℤ) (s r : Side) {t : ℕ} → t ≡ 0 → a +ℤ along s t ≡ a +ℤ along r t
 no_step a s r {t} e = subst (λ (n : ℕ). a +ℤ along s n ≡ a +ℤ along r n) (sym e) (along_zero a s ∙ sym (along_zero a r))
 
-module _ (c : tie.After-side-of) where
+module _ (c : tie.After-side_of-side) where
   abbrev begun : tie.Start
   begun = c.before.before.before.before
 
   abbrev from : ℤ
   from = to_z w32 (of_z w32 begun.args.g.depth.start)
 
-  side_is : c.side-of.result ≡ side_of (begun.args.g.depth.target -ℤ begun.args.g.depth.start)
-  side_is = c.side-of.ensures ∙ search rules
+  side_is : c.side_of-side.result ≡ side_of (begun.args.g.depth.target -ℤ begun.args.g.depth.start)
+  side_is = c.side_of-side.ensures ∙ search rules
 
   -- the step goes to the place at that depth
-  the_place : from +ℤ along c.side-of.result begun.args.t ≡ deep_at begun.args.g begun.args.t
+  the_place : from +ℤ along c.side_of-side.result begun.args.t ≡ deep_at begun.args.g begun.args.t
   the_place =
       let f : SFits w32 begun.args.g.depth.start = search rules in
       (λ i. to_z-of_z f i +ℤ along (side_is i) begun.args.t)
 
   -- by the side that it was told as
-  told : {s : Side} → c.side-of.result ≡ s → from +ℤ along s begun.args.t ≡ deep_at begun.args.g begun.args.t
+  told : {s : Side} → c.side_of-side.result ≡ s → from +ℤ along s begun.args.t ≡ deep_at begun.args.g begun.args.t
   told {s} e = ap (λ (r : Side). from +ℤ along r begun.args.t) (sym e) ∙ the_place
 
   -- and to any side, where there is no way
-  nowhere : c.side-of.result ≡ Zero → from +ℤ along Plus begun.args.t ≡ deep_at begun.args.g begun.args.t
-  nowhere e = no_step from Plus Zero (omega (arith, begun.pre, no_way (begun.args.g.depth.target -ℤ begun.args.g.depth.start) (sym side_is ∙ e))) ∙ told e
+  nowhere : c.side_of-side.result ≡ Zero → from +ℤ along Plus begun.args.t ≡ deep_at begun.args.g begun.args.t
+  nowhere e = no_step from Plus Zero (omega (arith, begun.requires, no_way (begun.args.g.depth.target -ℤ begun.args.g.depth.start) (sym side_is ∙ e))) ∙ told e
 
   fits : {z : ℤ} → z ≡ deep_at begun.args.g begun.args.t → SFits w32 z
   fits e =
       let f : SFits w32 begun.args.g.depth.start = search rules in
       let g : SFits w32 begun.args.g.depth.target = search rules in
-      subst (SFits w32) (sym e) (toward f g begun.args.t begun.pre)
+      subst (SFits w32) (sym e) (toward f g begun.args.t begun.requires)
 
 step_requires : tie.Need-step-requires
-step_requires c κs = let k = c.before.before in fits k (told k c.enum_told.given.1)
+step_requires c κs = let k = c in fits k.before (told k.before c.in-Plus.is)
 
-step_requires_2 : tie.Need-step-requires-2
-step_requires_2 c κs = let k = c.before.before in fits k (told k c.enum-told2.given.1)
+step_requires_2 : tie.Need-step-requires-in-Minus
+step_requires_2 c κs = let k = c in fits k.before (told k.before c.in-Minus.is)
 
-step_requires_3 : tie.Need-step-requires-3
-step_requires_3 c κs = let k = c.before.before in fits k (nowhere k c.enum-told3.given.1)
+step_requires_3 : tie.Need-step-requires-in-Zero
+step_requires_3 c κs = let k = c in fits k.before (nowhere k.before c.in-Zero.is)
 
-returns : tie.Need-returns
-returns c = to_z-of_z (sfits_of {w = w32} c.step.type-inv) ∙ c.step.ensures ∙ told c.before.before.before c.before.enum_told.given.1
+returns : tie.Need-returns-in-Plus
+returns c = to_z-of_z (sfits_of {w = w32} c.step.type_inv) ∙ c.step.ensures ∙ told c.before.before c.in-Plus.is
 
-returns_2 : tie.Need-returns-2
-returns_2 c = to_z-of_z (sfits_of {w = w32} c.step2.type-inv) ∙ c.step2.ensures ∙ told c.before.before.before c.before.enum-told2.given.1
+returns_2 : tie.Need-returns-in-Minus
+returns_2 c = to_z-of_z (sfits_of {w = w32} c.step-in-Minus.type_inv) ∙ c.step-in-Minus.ensures ∙ told c.before.before c.in-Minus.is
 
-returns_3 : tie.Need-returns-3
-returns_3 c = to_z-of_z (sfits_of {w = w32} c.step3.type-inv) ∙ c.step3.ensures ∙ nowhere c.before.before.before c.before.enum-told3.given.1
+returns_3 : tie.Need-returns-in-Zero
+returns_3 c = to_z-of_z (sfits_of {w = w32} c.step-in-Zero.type_inv) ∙ c.step-in-Zero.ensures ∙ nowhere c.before.before c.in-Zero.is
 
 pub deep_at_spec : {M : Type 1} → statement M
 deep_at_spec =

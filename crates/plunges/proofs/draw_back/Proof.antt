@@ -19,14 +19,14 @@ width_held s = search rules
 returns : tie.Need-returns
 unfolding rest_at
 returns c =
-    let r = c.before in
-    let d = r.before.before in
-    let s = d.before.before.before in
+    let r = c in
+    let d = r in
+    let s = d in
     let k = s.args.c in
-    let to = to_z-of_z (sfits_of {w = w32} d.deep-at.type-inv) ∙ d.deep-at.ensures ∙ ap (deep_at k.groove) d.before.drawn-back.ensures in
+    let to = to_z-of_z (sfits_of {w = w32} d.deep_at-to.type_inv) ∙ d.deep_at-to.ensures ∙ ap (deep_at k.groove) d.drawn_back.ensures in
     within k s.requires.0 s.requires.1 Cut (is_ready k s.requires.0 s.requires.1) refl
-    (r.rapid-to.ensures ∙ λ i. rapid_to k.groove.facing (to i) (to_z-of_z (width_held s) i))
-    c.at_stage.ensures
+    (r.rapid_to-record.ensures ∙ λ i. rapid_to k.groove.facing (to i) (to_z-of_z (width_held s.before.before.before.before.before.before) i))
+    c.at_stage-rest.ensures
 
 pub draw_back_spec : {M : Type 1} → statement M
 draw_back_spec =

@@ -21,11 +21,11 @@ across_held s = search rules
 returns : tie.Need-returns
 unfolding rest_at
 returns c =
-    let s = c.before.before.before.before.before.before in
+    let s = c in
     let k = s.args.c in
     within k s.requires.0 s.requires.1 Out tt refl
-    (c.before.dwell-at.ensures ∙ λ i. dwell_at k.groove.facing k.groove.dwell (to_z-of_z (inward_held s) i) (to_z-of_z (across_held s) i))
-    c.at_stage.ensures
+    (c.dwell_at-record.ensures ∙ λ i. dwell_at k.groove.facing k.groove.dwell (to_z-of_z (inward_held s.before.before.before.before.before.before) i) (to_z-of_z (across_held s.before.before.before.before.before.before) i))
+    c.at_stage-rest.ensures
 
 pub dwell_spec : {M : Type 1} → statement M
 dwell_spec = tie.close (tie.spec (λ c κs. search rules) (λ c κs. search rules) returns)

@@ -18,11 +18,11 @@ wide_held s = search rules
 
 returns : tie.Need-returns
 returns c =
-    let r = c.before in
-    let s = r.before.before.before.before.before.before in
+    let r = c in
+    let s = r in
     let k = s.args.c in
-    goes_home k s.requires.0 s.requires.1 s.requires.2 (r.rapid-to.ensures ∙ λ i. rapid_to k.groove.facing (to_z-of_z (deep_held s) i) (to_z-of_z (wide_held s) i))
-    c.at_stage.ensures
+    goes_home k s.requires.0 s.requires.1 s.requires.2 (r.rapid_to-record.ensures ∙ λ i. rapid_to k.groove.facing (to_z-of_z (deep_held s.before.before.before.before.before.before.before) i) (to_z-of_z (wide_held s.before.before.before.before.before.before.before) i))
+    c.at_stage-rest.ensures
 
 pub go_home_spec : {M : Type 1} → statement M
 go_home_spec = tie.close (tie.spec (λ c κs. search rules) (λ c κs. search rules) returns)

@@ -19,24 +19,24 @@ start_held s = search rules
 width_held : (s : tie.Start) → SFits w32 s.args.c.width
 width_held s = search rules
 
-step_requires : tie.Need-step-requires
+step_requires : tie.Need-step-width-requires
 step_requires c κs =
-    let h = c.before in
-    let s = h.before.before.before.before in
-    let f = width_held s in
-    subst (SFits w32) (ap (λ (w : ℤ). w +ℤ along Minus h.hand-out.result.piece) (sym (to_z-of_z f)))
-    (width_next_fits s.args.c s.requires.0 h.hand-out.result.rest h.hand-out.ensures f)
+    let h = c in
+    let s = h in
+    let f = width_held s.before.before.before.before.before.before in
+    subst (SFits w32) (ap (λ (w : ℤ). w +ℤ along Minus h.hand_out-handed.result.piece) (sym (to_z-of_z f)))
+    (width_next_fits s.args.c s.requires.0 h.hand_out-handed.result.rest h.hand_out-handed.ensures f)
 
 returns : tie.Need-returns
 returns c =
     let r = c in
-    let t = r.before.before.before in
-    let h = t.before.before in
-    let s = h.before.before.before.before in
+    let t = r in
+    let h = t in
+    let s = h in
     let k = s.args.c in
-    let wide = to_z-of_z (sfits_of {w = w32} t.step.type-inv) ∙ t.step.ensures ∙ ap (λ (w : ℤ). w +ℤ along Minus h.hand-out.result.piece) (to_z-of_z (width_held s)) in
-    goes_on k s.requires.0 h.hand-out.result.rest h.hand-out.ensures s.requires.1 wide
-    (r.rapid-to.ensures ∙ ap (λ (d : ℤ). rapid_to k.groove.facing d (to_z w32 (of_z w32 t.step.result))) (to_z-of_z (start_held s)))
+    let wide = to_z-of_z (sfits_of {w = w32} t.step-width.type_inv) ∙ t.step-width.ensures ∙ ap (λ (w : ℤ). w +ℤ along Minus h.hand_out-handed.result.piece) (to_z-of_z (width_held s.before.before.before.before.before.before.before.before.before.before)) in
+    goes_on k s.requires.0 h.hand_out-handed.result.rest h.hand_out-handed.ensures s.requires.1 wide
+    (r.rapid_to-record.ensures ∙ ap (λ (d : ℤ). rapid_to k.groove.facing d (to_z w32 (of_z w32 t.step-width.result))) (to_z-of_z (start_held s.before.before.before.before.before.before.before.before.before.before)))
     refl
 
 pub go_on_spec : {M : Type 1} → statement M

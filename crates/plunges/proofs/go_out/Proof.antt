@@ -16,23 +16,23 @@ start_held s = search rules
 width_held : (s : tie.Start) → SFits w32 s.args.c.width
 width_held s = search rules
 
-returns : tie.Need-returns
+returns : tie.Need-returns-then-c
 returns c =
-    let i = c.before in
-    let r = i.before in
-    let s = r.before.before.before.before.before in
+    let i = c in
+    let r = i in
+    let s = r in
     let k = s.args.c in
-    goes_across k s.requires.0 s.requires.1 (r.rapid-to.ensures ∙ λ i. rapid_to k.groove.facing (to_z-of_z (start_held s) i) (to_z-of_z (width_held s) i))
-    i.if1.true c.at_stage.ensures
+    goes_across k s.requires.0 s.requires.1 (r.rapid_to-record.ensures ∙ λ i. rapid_to k.groove.facing (to_z-of_z (start_held s.before.before.before.before.before.before.before) i) (to_z-of_z (width_held s.before.before.before.before.before.before.before) i))
+    i.if-c.true c.at_stage-rest.ensures
 
-returns_2 : tie.Need-returns-2
+returns_2 : tie.Need-returns
 returns_2 c =
-    let i = c.before in
-    let r = i.before in
-    let s = r.before.before.before.before.before in
+    let i = c in
+    let r = i in
+    let s = r in
     let k = s.args.c in
-    goes_over k s.requires.0 s.requires.1 (r.rapid-to.ensures ∙ λ i. rapid_to k.groove.facing (to_z-of_z (start_held s) i) (to_z-of_z (width_held s) i))
-    i.if1.false c.at-stage2.ensures
+    goes_over k s.requires.0 s.requires.1 (r.rapid_to-record.ensures ∙ λ i. rapid_to k.groove.facing (to_z-of_z (start_held s.before.before.before.before.before.before.before) i) (to_z-of_z (width_held s.before.before.before.before.before.before.before) i))
+    i.if-c.false c.at_stage-rest-2.ensures
 
 pub go_out_spec : {M : Type 1} → statement M
 go_out_spec = tie.close (tie.spec (λ c κs. search rules) (λ c κs. search rules) returns (λ c κs. search rules) returns_2)

@@ -8,9 +8,9 @@ use Rattle.plunges.proofs.next_alone.Statement.{statement}
 use Rattle.plunges.proofs.next_alone.Tie as tie
 
 -- nothing is left: no caller comes here
-go_across_requires_2 : tie.Need-go-across-requires-2
+go_across_requires_2 : tie.Need-go_across-requires-in-Over
 go_across_requires_2 c κs =
-    let s = c.before.before in
+    let s = c in
     let e : s.args.c.stage ≡ Over = search rules in
     absurd (never (sym s.requires.1 ∙ ap over_at e))
 

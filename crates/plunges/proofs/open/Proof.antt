@@ -21,13 +21,13 @@ width_stands s = record { start = search rules; target = search rules }
 
 returns : tie.Need-returns
 returns c =
-    let q = c.before.before in
-    let p = q.before in
-    let s = p.before.before in
+    let q = c in
+    let p = q in
+    let s = p in
     let g = s.args.g in
     subst (λ (o : Cursor). (rest_of o ≡ grooving g) × Sound o)
-    (sym (λ i. record { groove = g; stage = Cut; width = to_z-of_z (width_stands s).start i; deep = 0; cuts = p.cuts-of.result; plunge = p.cuts-of.result; steps = q.steps_of.result; several = ltb 0 q.steps_of.result.left }))
-    (opens g p.cuts-of.result q.steps_of.result s.requires p.cuts-of.ensures q.steps_of.ensures (depth_stands s) (width_stands s))
+    (sym (λ i. record { groove = g; stage = Cut; width = to_z-of_z (width_stands s.before.before.before.before.before).start i; deep = 0; cuts = p.cuts_of-cuts.result; plunge = p.cuts_of-cuts.result; steps = q.steps_of-steps.result; several = ltb 0 q.steps_of-steps.result.left }))
+    (opens g p.cuts_of-cuts.result q.steps_of-steps.result s.requires p.cuts_of-cuts.ensures q.steps_of-steps.ensures (depth_stands s.before.before.before.before.before) (width_stands s.before.before.before.before.before))
 
 pub open_spec : {M : Type 1} → statement M
 open_spec = tie.close (tie.spec (λ c κs. search rules) (λ c κs. search rules) returns)

@@ -6,8 +6,8 @@ use Rattle.putting.proofs.has_own_loop.Statement.{statement}
 use Rattle.putting.proofs.has_own_loop.Tie as tie
 
 -- a groove
-returns_3 : tie.Need-returns-3
-returns_3 c = c.is-before-cut.ensures ∙ sym (ap has_own_loop c.before.before.due2.given.1)
+returns_3 : tie.Need-returns-in-Grooving
+returns_3 c = c.is_before_cut.ensures ∙ sym (ap has_own_loop c.in-Grooving.is)
 
 pub has_own_loop_spec : {M : Type 1} → statement M
 has_own_loop_spec =

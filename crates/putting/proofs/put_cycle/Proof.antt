@@ -10,48 +10,48 @@ use Rattle.putting.proofs.Cycles.{told_laid, none_laid}
 use Rattle.putting.proofs.put_cycle.Statement.{statement}
 use Rattle.putting.proofs.put_cycle.Tie as tie
 
-put_passes_requires : tie.Need-put-passes-requires
+put_passes_requires : tie.Need-put_passes-requires
 put_passes_requires c κs =
-    let m = c.before.before in
-    let s = m.before.before.before in
-    let is = m.due.given.1 in
+    let m = c in
+    let s = m in
+    let is = m.in-Turning.is in
     (subst DueSound is s.requires.0, sym (ap has_own_loop is) ∙ s.requires.1, subst (λ d. s.args.first + record_size * length (cycle_row d) ≤ length s.args.buf.now) is s.requires.2)
 
-put_plunges_requires : tie.Need-put-plunges-requires
+put_plunges_requires : tie.Need-put_plunges-requires
 put_plunges_requires c κs =
-    let m = c.before.before in
-    let s = m.before.before.before in
-    let is = m.due2.given.1 in
+    let m = c in
+    let s = m in
+    let is = m.in-Grooving.is in
     (subst DueSound is s.requires.0, sym (ap has_own_loop is) ∙ s.requires.1, subst (λ d. s.args.first + record_size * length (cycle_row d) ≤ length s.args.buf.now) is s.requires.2)
 
-returns : tie.Need-returns
+returns : tie.Need-returns-in-Turning
 returns c =
-    let p = c.before.before in
-    let m = p.before.before.before in
-    let a = m.before.before.before.args in
-    told_laid a.origin a.buf.now a.first a.due m.due.given.1 p.put-passes.ensures
+    let p = c in
+    let m = p in
+    let a = m.args in
+    told_laid a.origin a.buf.now a.first a.due m.in-Turning.is p.put_passes.ensures
 
-returns_2 : tie.Need-returns-2
+returns_2 : tie.Need-returns-in-Grooving
 returns_2 c =
-    let p = c.before.before in
-    let m = p.before.before.before in
-    let a = m.before.before.before.args in
-    told_laid a.origin a.buf.now a.first a.due m.due2.given.1 p.put-plunges.ensures
+    let p = c in
+    let m = p in
+    let a = m.args in
+    told_laid a.origin a.buf.now a.first a.due m.in-Grooving.is p.put_plunges.ensures
 
-returns_3 : tie.Need-returns-3
+returns_3 : tie.Need-returns-in-Threading
 returns_3 c =
-    let a = c.before.before.before.args in
-    none_laid a.origin a.buf.now a.first a.due (ap cycle_row c.enum_told.given.1)
+    let a = c.args in
+    none_laid a.origin a.buf.now a.first a.due (ap cycle_row c.in-Threading.is)
 
-returns_4 : tie.Need-returns-4
+returns_4 : tie.Need-returns-in-Drilling
 returns_4 c =
-    let a = c.before.before.before.args in
-    none_laid a.origin a.buf.now a.first a.due (ap cycle_row c.enum-told2.given.1)
+    let a = c.args in
+    none_laid a.origin a.buf.now a.first a.due (ap cycle_row c.in-Drilling.is)
 
-returns_5 : tie.Need-returns-5
+returns_5 : tie.Need-returns-in-Single
 returns_5 c =
-    let a = c.before.before.before.args in
-    none_laid a.origin a.buf.now a.first a.due (ap cycle_row c.enum-told3.given.1)
+    let a = c.args in
+    none_laid a.origin a.buf.now a.first a.due (ap cycle_row c.in-Single.is)
 
 pub put_cycle_spec : {M : Type 1} → statement M
 put_cycle_spec =

@@ -20,10 +20,10 @@ use Rattle.putting.proofs.Cycles.{cycle_first, stop_behind, none_behind}
 use Rattle.putting.proofs.put_rest.Statement.{statement}
 use Rattle.putting.proofs.put_rest.Tie as tie
 
-abbrev invariant_loop : tie.invariant-loop
+abbrev invariant_loop : tie.invariant-loop-handed
 invariant_loop buf₀ first origin plan due₀ at₀ buf due at = Sound plan due × Written origin buf₀ first (rest_of plan due₀) buf (rest_of plan due) at
 
-abbrev decreases_loop : tie.decreases-loop
+abbrev decreases_loop : tie.decreases-loop-handed
 decreases_loop buf₀ first origin plan due₀ at₀ buf due at = length (rest_of plan due)
 
 -- ---- the two tests of the loop
@@ -35,156 +35,156 @@ left_one : (a b : Bool) → (not a && not b) ≡ false → b ≡ false → a ≡
 left_one true b e h = refl
 left_one false b e h = sym h ∙ not-false b e
 
-abbrev loop_of : tie.After-next invariant_loop decreases_loop → tie.At-loop invariant_loop decreases_loop
+abbrev loop_of : tie.After-next-handed invariant_loop decreases_loop → tie.At-loop-handed invariant_loop decreases_loop
 loop_of n = n.before.before.before.before
 
 -- the next record has room
-has_room : (n : tie.After-next invariant_loop decreases_loop) → (loop_of n).loop.at + record_size ≤ length (loop_of n).loop.buf
+has_room : (n : tie.After-next-handed invariant_loop decreases_loop) → (loop_of n).loop-handed.at + record_size ≤ length (loop_of n).loop-handed.buf
 has_room n =
     let l = loop_of n in
-    written_room l.before.before.before.pre.1 l.loop.inv.1 n.next.result.«record» _ n.next.ensures.first
+    written_room l.requires.1 l.loop-handed.invariant.1 n.next-handed.result.«record» _ n.next-handed.ensures.first
 
 -- ---- a cycle is due that has a loop of its own
-abbrev loop_by : tie.Then2 invariant_loop decreases_loop → tie.At-loop invariant_loop decreases_loop
+abbrev loop_by : tie.Then-has_own_loop invariant_loop decreases_loop → tie.At-loop-handed invariant_loop decreases_loop
 loop_by t = t.before.before.before.before.before
 
-own_loop : (t : tie.Then2 invariant_loop decreases_loop) → has_own_loop (loop_by t).loop.due ≡ true
-own_loop t = sym t.before.has-own-loop2.ensures ∙ t.if2.true
+own_loop : (t : tie.Then-has_own_loop invariant_loop decreases_loop) → has_own_loop (loop_by t).loop-handed.due ≡ true
+own_loop t = sym t.has_own_loop-2.ensures ∙ t.if-has_own_loop.true
 
 -- it is written
-abbrev told_by_lem : tie.After-put-cycle invariant_loop decreases_loop → tie.Then2 invariant_loop decreases_loop
+abbrev told_by_lem : tie.After-put_cycle-behind invariant_loop decreases_loop → tie.Then-has_own_loop invariant_loop decreases_loop
 told_by_lem q = q.before.before
 
-cycle_written : (q : tie.After-put-cycle invariant_loop decreases_loop)
-    → (let l = loop_by (told_by_lem q) in let a = l.before.before.before.args in
-    Written a.origin a.buf.now a.first (rest_of a.c.plan a.c.due) q.put-cycle.new.0 (behind_deed a.c.plan) q.put-cycle.result)
+cycle_written : (q : tie.After-put_cycle-behind invariant_loop decreases_loop)
+    → (let l = loop_by (told_by_lem q) in let a = l.args in
+    Written a.origin a.buf.now a.first (rest_of a.c.plan a.c.due) q.put_cycle-behind.new.buf (behind_deed a.c.plan) q.put_cycle-behind.result)
 cycle_written q =
     let t = told_by_lem q in
     let l = loop_by t in
-    subst (Written _ _ _ _ _ _) (sym q.put-cycle.ensures.0)
-    (some_written l.before.before.before.pre.1 l.loop.inv.1 (cycle_row l.loop.due) _ (cycle_first _ l.loop.due (own_loop t)) q.put-cycle.ensures.1)
+    subst (Written _ _ _ _ _ _) (sym q.put_cycle-behind.ensures.0)
+    (some_written l.requires.1 l.loop-handed.invariant.1 (cycle_row l.loop-handed.due) _ (cycle_first _ l.loop-handed.due (own_loop t)) q.put_cycle-behind.ensures.1)
 
 -- and M00 or M30 has room behind it
-abbrev cycle_of : tie.After-single invariant_loop decreases_loop → tie.After-put-cycle invariant_loop decreases_loop
+abbrev cycle_of : tie.After-single-stop invariant_loop decreases_loop → tie.After-put_cycle-behind invariant_loop decreases_loop
 cycle_of k = k.before.before.before.before
 
-stop_room : (k : tie.After-single invariant_loop decreases_loop) → (cycle_of k).put-cycle.result + record_size ≤ length (cycle_of k).put-cycle.new.0
+stop_room : (k : tie.After-single-stop invariant_loop decreases_loop) → (cycle_of k).put_cycle-behind.result + record_size ≤ length (cycle_of k).put_cycle-behind.new.buf
 stop_room k =
     let q = cycle_of k in
     let s = (loop_by (told_by_lem q)).before.before.before in
-    written_room s.pre.1 (cycle_written q) _ _ (stop_behind s.args.c.plan k.before.if3.true)
+    written_room s.requires.1 (cycle_written q) _ _ (stop_behind s.args.c.plan k.if-plan.true)
 
-loop_holds : tie.Need-loop-init invariant_loop decreases_loop
-loop_holds c = (c.before.before.requires.0, none_written _ _ _ _)
+loop_holds : tie.Need-loop-handed-init invariant_loop decreases_loop
+loop_holds c = (c.requires.0, none_written _ _ _ _)
 
-next_requires : tie.Need-next-requires invariant_loop decreases_loop
+next_requires : tie.Need-next-handed-requires invariant_loop decreases_loop
 next_requires c κs =
-    let o = c.before.before in
-    (o.before.loop.invariant.0, sym o.is-over.ensures ∙ left_first o.is-over.result c.before.has-own-loop.result c.if1.true)
+    let o = c in
+    (o.loop-handed.invariant.0, sym o.is_over.ensures ∙ left_first o.is_over.result c.has_own_loop.result c.loop-handed-test.true)
 
-sub_put_record : tie.Need-overflow-sub-put-record invariant_loop decreases_loop
+sub_put_record : tie.Need-slice_bounds-put_record-count invariant_loop decreases_loop
 sub_put_record c = omega (arith, has_room c.before)
 
-part_put_record_start : tie.Need-slice-bounds-put-record-start invariant_loop decreases_loop
+part_put_record_start : tie.Need-slice_bounds-put_record-start invariant_loop decreases_loop
 part_put_record_start c = let h = has_room c.before in search rules
 
-part_put_record_end : tie.Need-slice-bounds-put-record-end invariant_loop decreases_loop
+part_put_record_end : tie.Need-slice_bounds-put_record-end invariant_loop decreases_loop
 part_put_record_end c = let h = has_room c.before in search rules
 
-put_record_requires : tie.Need-put-record-requires invariant_loop decreases_loop
+put_record_requires : tie.Need-put_record-requires invariant_loop decreases_loop
 put_record_requires c κs = let h = has_room c.before.before in search rules
 
-abbrev next_of : tie.After-slice-known2 invariant_loop decreases_loop → tie.After-next invariant_loop decreases_loop
+abbrev next_of : tie.After-slice_known-in-loop-handed-1 invariant_loop decreases_loop → tie.After-next-handed invariant_loop decreases_loop
 next_of c = c.before.before.before.before.before
 
-add_at : tie.Need-overflow-add-at invariant_loop decreases_loop
+add_at : tie.Need-overflow_add-at invariant_loop decreases_loop
 add_at c =
     let n = next_of c in
     let l = loop_of n in
-    omega (arith, has_room n, written_length l.before.before.before.pre.1 l.loop.inv.1)
+    omega (arith, has_room n, written_length l.requires.1 l.loop-handed.invariant.1)
 
-loop_less : tie.Need-loop-smaller invariant_loop decreases_loop
+loop_less : tie.Need-loop-handed-smaller invariant_loop decreases_loop
 loop_less c =
     let n = next_of c in
     let l = loop_of n in
-    rest_less l.before.before.before.pre.1 l.loop.inv.1 n.next.result.«record» _ n.next.ensures.first
+    rest_less l.requires.1 l.loop-handed.invariant.1 n.next-handed.result.«record» _ n.next-handed.ensures.first
 
-loop_again : tie.Need-loop-preserved invariant_loop decreases_loop
+loop_again : tie.Need-loop-handed-preserved invariant_loop decreases_loop
 loop_again c =
-    let p = c.before.before in
+    let p = c in
     let n = next_of c in
     let l = loop_of n in
-    let r = n.next.result.«record» in (
-      n.next.ensures.sound,
-      one_written l.before.before.before.pre.1 l.loop.inv.1 r _ n.next.ensures.first
-          (lent l.loop.buf l.loop.at (record_bytes (listed l.before.before.before.args.origin r)) p.put_record.new.0 p.put_record.ensures),
+    let r = n.next-handed.result.«record» in (
+      n.next-handed.ensures.sound,
+      one_written l.requires.1 l.loop-handed.invariant.1 r _ n.next-handed.ensures.first
+          (lent l.loop-handed.buf l.loop-handed.at (record_bytes (listed l.args.origin r)) p.put_record.new.part p.put_record.ensures),
     )
 
-put_cycle_requires : tie.Need-put-cycle-requires invariant_loop decreases_loop
+put_cycle_requires : tie.Need-put_cycle-behind-requires invariant_loop decreases_loop
 put_cycle_requires c κs =
-    let t = c.before in
-    let l = loop_by t in
-    let e = own_loop t in (
-      l.loop.inv.0.due,
+    let t = c in
+    let l = loop_by t.before in
+    let e = own_loop t.before in (
+      l.loop-handed.invariant.0.due,
       e,
-      some_room l.before.before.before.pre.1 l.loop.inv.1 (cycle_row l.loop.due) _ (cycle_first _ l.loop.due e),
+      some_room l.requires.1 l.loop-handed.invariant.1 (cycle_row l.loop-handed.due) _ (cycle_first _ l.loop-handed.due e),
     )
 
-sub_put_record_2 : tie.Need-overflow-sub-put-record-2 invariant_loop decreases_loop
+sub_put_record_2 : tie.Need-slice_bounds-put_record-count-then-plan invariant_loop decreases_loop
 sub_put_record_2 c = omega (arith, stop_room c)
 
-part_put_record_start_2 : tie.Need-slice-bounds-put-record-start-2 invariant_loop decreases_loop
+part_put_record_start_2 : tie.Need-slice_bounds-put_record-start-then-plan invariant_loop decreases_loop
 part_put_record_start_2 c = let h = stop_room c in search rules
 
-part_put_record_end_2 : tie.Need-slice-bounds-put-record-end-2 invariant_loop decreases_loop
+part_put_record_end_2 : tie.Need-slice_bounds-put_record-end-then-plan invariant_loop decreases_loop
 part_put_record_end_2 c = let h = stop_room c in search rules
 
-put_record_requires_2 : tie.Need-put-record-requires-2 invariant_loop decreases_loop
+put_record_requires_2 : tie.Need-put_record-requires-then-plan invariant_loop decreases_loop
 put_record_requires_2 c κs = let h = stop_room c.before in search rules
 
 -- ---- all is written: with M00 or M30, or nothing, behind the cycle; or with no such cycle
-stop_written : (c : tie.After-slice-known4 invariant_loop decreases_loop)
-    → (let p = c.before.before in let q = cycle_of p.before.before in let a = (loop_by (told_by_lem q)).before.before.before.args in let at = q.put-cycle.result in
-    Written a.origin a.buf.now a.first (rest_of a.c.plan a.c.due) (put_mid at (length q.put-cycle.last.0 - at) q.put-cycle.last.0 p.put-record2.new.0) [] (at + record_size))
+stop_written : (c : tie.After-slice_known-then-plan-1 invariant_loop decreases_loop)
+    → (let p = c in let q = cycle_of p.before.before.before.before in let a = (loop_by (told_by_lem q)).args in let at = q.put_cycle-behind.result in
+    Written a.origin a.buf.now a.first (rest_of a.c.plan a.c.due) (put_mid at (length q.put_cycle-behind.new.buf - at) q.put_cycle-behind.new.buf p.put_record-then-plan.new.part) [] (at + record_size))
 stop_written c =
-    let p = c.before.before in
-    let k = p.before.before in
-    let q = cycle_of k in
+    let p = c in
+    let k = p in
+    let q = cycle_of k.before.before.before.before in
     let s = (loop_by (told_by_lem q)).before.before.before in
-    let r = k.single.result in
-    one_written s.pre.1 (cycle_written q) r [] (stop_behind s.args.c.plan k.before.if3.true ∙ ap (λ (x : Record). x ∷ []) (sym k.single.ensures))
-    (lent q.put-cycle.last.0 q.put-cycle.result (record_bytes (listed s.args.origin r)) p.put-record2.new.0 p.put-record2.ensures)
+    let r = k.single-stop.result in
+    one_written s.requires.1 (cycle_written q) r [] (stop_behind s.args.c.plan k.if-plan.true ∙ ap (λ (x : Record). x ∷ []) (sym k.single-stop.ensures))
+    (lent q.put_cycle-behind.new.buf q.put_cycle-behind.result (record_bytes (listed s.args.origin r)) p.put_record-then-plan.new.part p.put_record-then-plan.ensures)
 
-same_length : tie.Need-same-length invariant_loop decreases_loop
-same_length c = written_length (loop_by (told_by_lem (cycle_of c.before.before.before.before))).before.before.before.pre.1 (stop_written c)
+same_length : tie.Need-shape_of-buf-then-plan invariant_loop decreases_loop
+same_length c = written_length (loop_by (told_by_lem (cycle_of c.before.before.before.before))).requires.1 (stop_written c)
 
-returns : tie.Need-returns invariant_loop decreases_loop
-returns c = all_written (loop_by (told_by_lem (cycle_of c.before.before.before.before))).before.before.before.pre.1 (stop_written c) refl
+returns : tie.Need-returns-then-plan invariant_loop decreases_loop
+returns c = all_written (loop_by (told_by_lem (cycle_of c.before.before.before.before))).requires.1 (stop_written c) refl
 
-same_length_2 : tie.Need-same-length-2 invariant_loop decreases_loop
+same_length_2 : tie.Need-shape_of-buf-else-plan invariant_loop decreases_loop
 same_length_2 c =
-    let q = c.before.before.before in
-    written_length (loop_by (told_by_lem q)).before.before.before.pre.1 (cycle_written q)
+    let q = c in
+    written_length (loop_by (told_by_lem q.before.before.before)).requires.1 (cycle_written q.before.before.before)
 
-returns_2 : tie.Need-returns-2 invariant_loop decreases_loop
+returns_2 : tie.Need-returns-else-plan invariant_loop decreases_loop
 returns_2 c =
-    let q = c.before.before.before in
-    let s = (loop_by (told_by_lem q)).before.before.before in
-    all_written s.pre.1 (cycle_written q) (none_behind s.args.c.plan c.if3.false)
+    let q = c in
+    let s = (loop_by (told_by_lem q.before.before.before)).before.before.before in
+    all_written s.requires.1 (cycle_written q.before.before.before) (none_behind s.args.c.plan c.if-plan.false)
 
-same_length_3 : tie.Need-same-length-3 invariant_loop decreases_loop
+same_length_3 : tie.Need-shape_of-buf-else-has_own_loop invariant_loop decreases_loop
 same_length_3 c =
-    let l = c.before.before.before.before.before in
-    written_length l.before.before.before.requires.1 l.loop.invariant.1
+    let l = c in
+    written_length l.requires.1 l.loop-handed.invariant.1
 
-returns_3 : tie.Need-returns-3 invariant_loop decreases_loop
+returns_3 : tie.Need-returns-else-has_own_loop invariant_loop decreases_loop
 returns_3 c =
-    let h = c.before in
-    let e = h.before in
-    let o = e.before.before in
-    let l = o.before in
-    let none = left_one o.is-over.result e.before.has-own-loop.result e.if1.false (e.before.has-own-loop.ensures ∙ sym h.has-own-loop2.ensures ∙ c.if2.false) in
-    all_written l.before.before.before.requires.1 l.loop.invariant.1 (rest_none _ l.loop.due (sym o.is-over.ensures ∙ none))
+    let h = c in
+    let e = h in
+    let o = e in
+    let l = o in
+    let none = left_one o.is_over.result e.has_own_loop.result e.loop-handed-test.false (e.has_own_loop.ensures ∙ sym h.has_own_loop-2.ensures ∙ c.if-has_own_loop.false) in
+    all_written l.requires.1 l.loop-handed.invariant.1 (rest_none _ l.loop-handed.due (sym o.is_over.ensures ∙ none))
 
 pub put_rest_spec : {M : Type 1} → statement M
 put_rest_spec =

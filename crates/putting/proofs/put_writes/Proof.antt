@@ -18,36 +18,36 @@ use Rattle.putting.proofs.put_writes.Tie as tie
 fits : (s : tie.Start) → length s.args.buf.now < 2 ^ 64
 fits s = search rules
 
-module _ (o : tie.After-other-count) where
+module _ (o : tie.After-other_count) where
   abbrev start : tie.Start
   start = o.before.before
 
-  in_all : length (writes start.args.s start.args.b start.args.d) ≡ start.args.count + o.other-count.result
-  in_all = writes_length start.args.s start.args.b start.args.d ∙ (λ i. sym start.pre.2 i + sym o.other-count.ensures.0 i)
+  in_all : length (writes start.args.s start.args.b start.args.d) ≡ start.args.count + o.other_count.result
+  in_all = writes_length start.args.s start.args.b start.args.d ∙ (λ i. sym start.requires.2 i + sym o.other_count.ensures.0 i)
 
-add_total : tie.Need-overflow-add-total
+add_total : tie.Need-overflow_add-total
 add_total c = omega (arith, fits (start c), (start c).requires.3, in_all c)
 
-returns : tie.Need-returns
+returns : tie.Need-returns-then-total-eq0
 returns c =
-    let o = c.before in
-    let a = (start o).args in
-    nothing_written a.s a.b a.d a.origin a.buf.now a.k (omega (arith, writes_length a.s a.b a.d, in_all o, c.if1.true))
+    let o = c in
+    let a = (start o.before).args in
+    nothing_written a.s a.b a.d a.origin a.buf.now a.k (omega (arith, writes_length a.s a.b a.d, in_all o.before, c.if-total-eq0.true))
 
-put_rest_requires : tie.Need-put-rest-requires
+put_rest_requires : tie.Need-put_rest-requires
 put_rest_requires c κs =
-    let opened = c.before.open_block.ensures in
-    (opened.1, omega (arith, ap length opened.0, (start c.before.before.before).pre.3))
+    let opened = c.open_block-opened.ensures in
+    (opened.1, omega (arith, ap length opened.0, (start c.before.before.before).requires.3))
 
-add_result : tie.Need-overflow-add-result
-add_result c = let o = c.before.before.before.before.before.before in omega (arith, fits (start o), (start o).requires.3, in_all o)
+add_result : tie.Need-overflow_add-result
+add_result c = let o = c in omega (arith, fits (start o.before.before.before.before.before.before), (start o.before.before.before.before.before.before).requires.3, in_all o.before.before.before.before.before.before)
 
-returns_2 : tie.Need-returns-2
+returns_2 : tie.Need-returns
 returns_2 c =
-    let o = c.before.before.before.before.before.before in
-    let a = (start o).args in
-    let p = c.before.before in
-    (ap (λ (n : ℕ). a.k + n) (sym (in_all o)), p.put_rest.ensures ∙ ap (λ (v : List Record). laid a.buf.now (record_start a.k) (row_from a.origin v)) p.before.before.open_block.ensures.0)
+    let o = c in
+    let a = (start o.before.before.before.before.before.before).args in
+    let p = c in
+    (ap (λ (n : ℕ). a.k + n) (sym (in_all o.before.before.before.before.before.before)), p.put_rest.ensures ∙ ap (λ (v : List Record). laid a.buf.now (record_start a.k) (row_from a.origin v)) p.open_block-opened.ensures.0)
 
 pub put_writes_spec : {M : Type 1} → statement M
 put_writes_spec =

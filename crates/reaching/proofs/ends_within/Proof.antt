@@ -17,22 +17,22 @@ use Rattle.reaching.proofs.ends_within.Tie as tie
 told : (s : tie.Start) {t : Side} {u v : Bool} → s.args.side ≡ t → u ≡ v → Answers (SFits w32 (s.args.from +ℤ along t s.args.by)) v → Answers (SFits w32 (s.args.from +ℤ along s.args.side s.args.by)) u
 told s e f h = subst₂ (λ (t : Side) (u : Bool). Answers (SFits w32 (s.args.from +ℤ along t s.args.by)) u) (sym e) (sym f) h
 
-returns : tie.Need-returns
+returns : tie.Need-returns-in-Plus
 returns c =
-    let s = c.before.before.before in
-    told s c.before.enum_told.given.1
+    let s = c in
+    told s.before.before c.in-Plus.is
     (ap (leb s.args.by) (c.distance.ensures ∙ ap (λ (z : ℤ). nat_abs (greatest -ℤ z)) (to_z-of_z s.ranges.from)))
     (upward s.args.from s.args.by s.ranges.from)
 
-returns_2 : tie.Need-returns-2
+returns_2 : tie.Need-returns-in-Minus
 returns_2 c =
-    let s = c.before.before.before in
-    told s c.before.enum-told2.given.1
-    (ap (leb s.args.by) (c.distance2.ensures ∙ ap (λ (z : ℤ). nat_abs (z -ℤ least)) (to_z-of_z s.ranges.from)))
+    let s = c in
+    told s.before.before c.in-Minus.is
+    (ap (leb s.args.by) (c.distance-in-Minus.ensures ∙ ap (λ (z : ℤ). nat_abs (z -ℤ least)) (to_z-of_z s.ranges.from)))
     (downward s.args.from s.args.by s.ranges.from)
 
-returns_3 : tie.Need-returns-3
-returns_3 c = let s = c.before.before in told s c.enum-told3.given.1 refl (nowhere s.args.from s.args.by s.ranges.from)
+returns_3 : tie.Need-returns-in-Zero
+returns_3 c = let s = c in told s.before c.in-Zero.is refl (nowhere s.args.from s.args.by s.ranges.from)
 
 pub ends_within_spec : {M : Type 1} → statement M
 ends_within_spec =

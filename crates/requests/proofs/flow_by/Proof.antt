@@ -8,30 +8,30 @@ use borrow.Author.Rules.{rules}
 use Rattle.requests.proofs.flow_by.Statement.{statement}
 use Rattle.requests.proofs.flow_by.Tie as tie
 
-returns : tie.Need-returns
+returns : tie.Need-returns-in-Stop
 unfolding flow_by
 returns c =
-    let m = c.before.before.before in
-    flow_by_lem (code_is m.before.before.before.code.given.1 (flows_is m.meaning.given.1 c.enum_told.given.1))
+    let m = c in
+    flow_by_lem (code_is m.in-Of.is (flows_is m.in-Flows.is c.in-Stop.is))
 
-returns_2 : tie.Need-returns-2
+returns_2 : tie.Need-returns-in-Return
 unfolding flow_by
 returns_2 c =
-    let m = c.before.before.before in
-    flow_by_lem (code_is m.before.before.before.code.given.1 (flows_is m.meaning.given.1 c.enum-told2.given.1))
+    let m = c in
+    flow_by_lem (code_is m.in-Of.is (flows_is m.in-Flows.is c.in-Return.is))
 
-returns_3 : tie.Need-returns-3
+returns_3 : tie.Need-returns-in-End
 unfolding flow_by
 returns_3 c =
-    let m = c.before.before.before in
-    flow_by_lem (code_is m.before.before.before.code.given.1 (flows_is m.meaning.given.1 c.enum-told3.given.1))
+    let m = c in
+    flow_by_lem (code_is m.in-Of.is (flows_is m.in-Flows.is c.in-End.is))
 
-returns_4 : tie.Need-returns-4
-returns_4 c = no_flow _ _ c.match2.keys2 ∙ flow_by_lem c.before.before.code.given.1
+returns_4 : tie.Need-returns-in_default
+returns_4 c = no_flow _ _ c.in_default.in_default-own.keys2 ∙ flow_by_lem c.in-Of.is
 
-returns_5 : tie.Need-returns-5
+returns_5 : tie.Need-returns-in-Unknown
 unfolding flow_by
-returns_5 c = flow_by_lem c.enum-told4.given.1
+returns_5 c = flow_by_lem c.in-Unknown.is
 
 pub flow_by_spec : {M : Type 1} → statement M
 flow_by_spec =

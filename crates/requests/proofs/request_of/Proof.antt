@@ -8,10 +8,10 @@ use Rattle.requests.proofs.request_of.Tie as tie
 returns : tie.Need-returns
 unfolding request_of
 returns c =
-    let l = c.before in
-    let g = l.before in
-    let f = g.before in
-    c.steered.ensures ∙ (λ i. steered (g.g-in.ensures i) (l.Code-in.ensures i) ((f.flow-by.ensures ∙ ap flow_by f.before.m-in.ensures) i))
+    let l = c in
+    let g = l in
+    let f = g in
+    c.steered.ensures ∙ (λ i. steered (g.g_in-code.ensures i) (l.code_in-l.ensures i) ((f.flow_by-flow.ensures ∙ ap flow_by f.m_in.ensures) i))
 
 pub request_of_spec : {M : Type 1} → statement M
 request_of_spec =

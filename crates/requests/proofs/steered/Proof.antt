@@ -9,32 +9,32 @@ use borrow.Author.Rules.{rules}
 use Rattle.requests.proofs.steered.Statement.{statement}
 use Rattle.requests.proofs.steered.Tie as tie
 
-returns : tie.Need-returns
+returns : tie.Need-returns-in-Call
 unfolding steered
 returns c =
-    let t = c.before in
-    let m = t.before.before.before in
-    let k = m.before.before.before in
-    let a = k.before.before.args in
-    ap (Call (a.l / 100)) c.times-of.ensures ∙ steered_by a.l a.other (code_is k.code.given.1 (steers_is m.meaning.given.1 t.enum_told.given.1))
+    let t = c in
+    let m = t in
+    let k = m in
+    let a = k.args in
+    ap (Call (a.l / 100)) c.times_of.ensures ∙ steered_by a.l a.other (code_is k.in-Of.is (steers_is m.in-Steers.is t.in-Call.is))
 
-returns_2 : tie.Need-returns-2
+returns_2 : tie.Need-returns-in-Jump
 unfolding steered
 returns_2 c =
-    let m = c.before.before.before in
-    let k = m.before.before.before in
-    let a = k.before.before.args in
-    steered_by a.l a.other (code_is k.code.given.1 (steers_is m.meaning.given.1 c.enum-told2.given.1))
+    let m = c in
+    let k = m in
+    let a = k.args in
+    steered_by a.l a.other (code_is k.in-Of.is (steers_is m.in-Steers.is c.in-Jump.is))
 
-returns_3 : tie.Need-returns-3
+returns_3 : tie.Need-returns-in_default
 returns_3 c =
-    let k = c.before.before in
-    let a = k.before.before.args in
-    no_steering _ _ a.l a.other c.match2.keys2 ∙ steered_by a.l a.other k.code.given.1
+    let k = c in
+    let a = k.args in
+    no_steering _ _ a.l a.other c.in_default.in_default-own.keys2 ∙ steered_by a.l a.other k.in-Of.is
 
-returns_4 : tie.Need-returns-4
+returns_4 : tie.Need-returns-in-Unknown
 unfolding steered
-returns_4 c = let a = c.before.before.args in steered_by a.l a.other c.enum-told3.given.1
+returns_4 c = let a = c.args in steered_by a.l a.other c.in-Unknown.is
 
 pub steered_spec : {M : Type 1} → statement M
 steered_spec =

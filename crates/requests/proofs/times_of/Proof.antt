@@ -7,13 +7,13 @@ use Rattle.state.proofs.Settling.{given, stays}
 use Rattle.requests.proofs.times_of.Statement.{statement}
 use Rattle.requests.proofs.times_of.Tie as tie
 
-returns : tie.Need-returns
+returns : tie.Need-returns-then-n-eq0
 unfolding times_of
-returns c = given (c.before.args.l % 100) refl (eq-eqb (c.before.args.l % 100) 0 c.if1.true) refl
+returns c = given (c.args.l % 100) refl (eq-eqb (c.args.l % 100) 0 c.if-n-eq0.true) refl
 
-returns_2 : tie.Need-returns-2
+returns_2 : tie.Need-returns
 unfolding times_of
-returns_2 c = stays 1 (c.before.args.l % 100) refl (ne_eqb (c.before.args.l % 100) 0 c.if1.false)
+returns_2 c = stays 1 (c.args.l % 100) refl (ne_eqb (c.args.l % 100) 0 c.if-n-eq0.false)
 
 pub times_of_spec : {M : Type 1} → statement M
 times_of_spec = tie.close (tie.spec returns returns_2)

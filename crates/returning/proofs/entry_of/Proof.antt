@@ -2,7 +2,7 @@
 use mathlib.Core.Path.{ap}
 use borrow.Author.Rules.{rules}
 use Rattle.tape.specs.declared.line.Line.{Line}
-use Rattle.resuming.specs.Remains.{frame_at}
+use Rattle.paused.specs.of_resuming.Remains.{frame_at}
 use Rattle.returning.proofs.entry_of.Statement.{statement}
 use Rattle.returning.proofs.entry_of.Tie as tie
 

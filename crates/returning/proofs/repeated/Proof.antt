@@ -4,7 +4,7 @@ use borrow.Author.Rules.{rules}
 use lib.ListN.{set}
 use Prim.Native.Nat.{◌-◌}
 use Rattle.ahead.specs.declared.Frame.{Frame}
-use Rattle.resuming.specs.Remains.{waiting}
+use Rattle.paused.specs.of_resuming.Remains.{waiting}
 use Rattle.returning.specs.Moving.{last_of}
 use Rattle.returning.proofs.repeated.Statement.{statement}
 use Rattle.returning.proofs.repeated.Tie as tie

@@ -20,8 +20,8 @@ has_requires_4 c κs = search rules
 returns : tie.Need-returns
 unfolding axis_twice
 returns c =
-    let x = c.before.before in
-    either (both x.before.has.ensures x.has2.ensures) (both c.before.has3.ensures c.has4.ensures)
+    let x = c in
+    either (both x.has.ensures x.has-2.ensures) (both c.has-3.ensures c.has-4.ensures)
 
 pub axis_twice_spec : {M : Type 1} → statement M
 axis_twice_spec =

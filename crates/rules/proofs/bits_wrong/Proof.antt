@@ -9,22 +9,22 @@ use borrow.Author.Rules.{rules}
 use Rattle.rules.proofs.bits_wrong.Statement.{statement}
 use Rattle.rules.proofs.bits_wrong.Tie as tie
 
-returns : tie.Need-returns
+returns : tie.Need-returns-then-bits-eq-NONE
 unfolding bits_wrong
-returns c = rw (eq-eqb c.before.args.bits none c.if1.true)
+returns c = rw (eq-eqb c.args.bits none c.if-bits-eq-NONE.true)
 
-d_slot_requires : tie.Need-d-slot-requires
+d_slot_requires : tie.Need-d_slot-requires
 d_slot_requires c κs = search rules
 
-code_in_requires : tie.Need-code-in-requires
+code_in_requires : tie.Need-code_in-requires
 code_in_requires c κs = search rules
 
-returns_2 : tie.Need-returns-2
+returns_2 : tie.Need-returns
 unfolding bits_wrong
 returns_2 c =
-    let d = c.before in
-    let a = d.before.before.args in
-    rw (ne_eqb a.bits none d.before.if1.false) (ap (ltb greatest_bits) (c.Code-in.ensures ∙ ap (code_in a.b) d.d-slot.ensures))
+    let d = c in
+    let a = d.args in
+    rw (ne_eqb a.bits none d.if-bits-eq-NONE.false) (ap (ltb greatest_bits) (c.code_in.ensures ∙ ap (code_in a.b) d.d_slot.ensures))
 
 pub bits_wrong_spec : {M : Type 1} → statement M
 bits_wrong_spec = tie.close (tie.spec returns d_slot_requires code_in_requires returns_2)

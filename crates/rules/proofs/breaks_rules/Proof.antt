@@ -10,10 +10,10 @@ use Rattle.rules.proofs.breaks_rules.Tie as tie
 returns : tie.Need-returns
 unfolding broken unknown_number late_n
 returns c =
-    let m = c.before in
-    let b = m.before.before.before.before.args.b in
-    let labels = either m.before.l-word-wrong.ensures m.more-than-l.ensures in
-    either {t = b.unknown || b.late} refl (either m.before.before.axis-twice.ensures (either labels c.motion-wrong.ensures))
+    let m = c in
+    let b = m.args.b in
+    let labels = either m.l_word_wrong.ensures m.more_than_l.ensures in
+    either {t = b.unknown || b.late} refl (either m.axis_twice-axes.ensures (either labels c.motion_wrong.ensures))
 
 pub breaks_rules_spec : {M : Type 1} → statement M
 breaks_rules_spec =

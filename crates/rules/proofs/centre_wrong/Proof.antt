@@ -15,7 +15,7 @@ has_requires_2 c κs = search rules
 
 returns : tie.Need-returns
 unfolding centre_wrong
-returns c = ap (λ (t : Bool). not c.before.before.args.centre && t) (either c.before.has.ensures c.has2.ensures)
+returns c = ap (λ (t : Bool). not c.args.centre && t) (either c.has.ensures c.has-2.ensures)
 
 pub centre_wrong_spec : {M : Type 1} → statement M
 centre_wrong_spec = tie.close (tie.spec has_requires has_requires_2 returns)

@@ -13,30 +13,30 @@ use Rattle.rules.proofs.path_wrong.Tie as tie
 by : {p q : Path} (b : Block) → p ≡ q → path_wrong q b ≡ path_wrong p b
 by b e = ap (λ (p : Path). path_wrong p b) (sym e)
 
-returns : tie.Need-returns
+returns : tie.Need-returns-in-Any
 unfolding path_wrong
-returns c = by c.before.before.before.before.before.before.args.b c.enum_told.given.1
+returns c = by c.args.b c.in-Any.is
 
-returns_2 : tie.Need-returns-2
+returns_2 : tie.Need-returns-in-Forbidden
 unfolding path_wrong
 returns_2 c =
-    let z = c.before.before in
-    let x = z.before.before in
-    either (either x.before.has.ensures x.has2.ensures) (either z.before.has3.ensures z.has4.ensures) ∙ by x.before.before.args.b c.enum-told2.given.1
+    let z = c in
+    let x = z in
+    either (either x.has.ensures x.has-2.ensures) (either z.has-3.ensures z.has-4.ensures) ∙ by x.args.b c.in-Forbidden.is
 
-returns_3 : tie.Need-returns-3
+returns_3 : tie.Need-returns-in-EachAxis
 unfolding path_wrong
 returns_3 c =
-    let z = c.before.before in
-    let x = z.before.before in
-    ap not (both (either x.before.has.ensures x.has2.ensures) (either z.before.has3.ensures z.has4.ensures)) ∙ by x.before.before.args.b c.enum-told3.given.1
+    let z = c in
+    let x = z in
+    ap not (both (either x.has.ensures x.has-2.ensures) (either z.has-3.ensures z.has-4.ensures)) ∙ by x.args.b c.in-EachAxis.is
 
-returns_4 : tie.Need-returns-4
+returns_4 : tie.Need-returns-in-ZAlone
 unfolding path_wrong
 returns_4 c =
-    let z = c.before.before in
-    let x = z.before.before in
-    either (either x.before.has.ensures x.has2.ensures) (ap not (either z.before.has3.ensures z.has4.ensures)) ∙ by x.before.before.args.b c.enum-told4.given.1
+    let z = c in
+    let x = z in
+    either (either x.has.ensures x.has-2.ensures) (ap not (either z.has-3.ensures z.has-4.ensures)) ∙ by x.args.b c.in-ZAlone.is
 
 pub path_wrong_spec : {M : Type 1} → statement M
 path_wrong_spec =

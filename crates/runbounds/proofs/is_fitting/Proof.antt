@@ -2,8 +2,8 @@
 use mathlib.Core.Path.{ap, ◌∙◌}
 use borrow.Author.Rules.{rules}
 use Rattle.telling.proofs.Tells.{tells_yes, tells_of}
-use Rattle.paused.specs.declared.Phase.TheVariants.{Over}
-use Rattle.paused.specs.Kept.{Answers}
+use Rattle.runwords.specs.of_paused.declared.Phase.TheVariants.{Over}
+use Rattle.runwords.specs.of_paused.Kept.{Answers}
 use Rattle.runbounds.proofs.Keeping.{tells_complete, tells_alarm}
 use Rattle.runbounds.proofs.is_fitting.Statement.{statement}
 use Rattle.runbounds.proofs.is_fitting.Tie as tie

@@ -1,7 +1,7 @@
 -- `runlaid::phase_words` meets its contract.
 use mathlib.Core.Path.{ap, ◌∙◌}
 use borrow.Author.Rules.{rules}
-use Rattle.paused.specs.declared.Phase.TheVariants.{Over}
+use Rattle.runwords.specs.of_paused.declared.Phase.TheVariants.{Over}
 use Rattle.runwords.proofs.Tags.{running_laid, complete_laid, stopped_laid, small_in}
 use Rattle.runlaid.proofs.phase_words.Statement.{statement}
 use Rattle.runlaid.proofs.phase_words.Tie as tie

@@ -20,21 +20,21 @@ target c = search rules
 returns : tie.Need-returns
 unfolding bore_of
 returns c =
-    let d6 = c.before in
-    let d5 = d6.before in
-    let d4 = d5.before in
-    let d3 = d4.before in
-    let start = d3.before in
+    let d6 = c in
+    let d5 = d6 in
+    let d4 = d5 in
+    let d3 = d4 in
+    let start = d3 in
     let a = start.args in
     λ i. record {
       full = a.full;
-      x = to_z-of_z (x start) i;
-      start = to_z-of_z (z start) i;
-      target = to_z-of_z (target start) i;
-      first = d3.d-word.ensures.0 i;
-      less = d5.d-word3.ensures.0 i;
-      least = d6.d-word4.ensures.0 i;
-      dwell = d4.d-word2.ensures.0 i;
+      x = to_z-of_z (x start.before.before.before.before.before) i;
+      start = to_z-of_z (z start.before.before.before.before.before) i;
+      target = to_z-of_z (target start.before.before.before.before.before) i;
+      first = d3.d_word-first.ensures.0 i;
+      less = d5.d_word-less.ensures.0 i;
+      least = d6.d_word-least.ensures.0 i;
+      dwell = d4.d_word-dwell.ensures.0 i;
       back = a.s.retract;
       f = a.s.f;
       g95 = a.s.g95;

@@ -7,18 +7,18 @@ use Rattle.scaling.proofs.Scaling.{empty_made}
 use Rattle.scaling.proofs.empty_cuts.Statement.{statement}
 use Rattle.scaling.proofs.empty_cuts.Tie as tie
 
-returns : tie.Need-returns
+returns : tie.Need-returns-then-has
 returns c =
-    let t = c.before in
-    let h = t.before in
-    let a = h.before.before.args in
-    empty_made a.b a.setting (sym t.if1.true ∙ h.has.ensures ∙ ap (has a.b) h.before.d-slot.ensures) c.d-word.ensures.0
+    let t = c in
+    let h = t in
+    let a = h.args in
+    empty_made a.b a.setting (sym t.if-has.true ∙ h.has.ensures ∙ ap (has a.b) h.d_slot.ensures) c.d_word.ensures.0
 
-returns_2 : tie.Need-returns-2
+returns_2 : tie.Need-returns
 returns_2 c =
-    let h = c.before in
-    let a = h.before.before.args in
-    empty_made a.b a.setting {n = d_word a.b 4} (sym c.if1.false ∙ h.has.ensures ∙ ap (has a.b) h.before.d-slot.ensures) refl
+    let h = c in
+    let a = h.args in
+    empty_made a.b a.setting {n = d_word a.b 4} (sym c.if-has.false ∙ h.has.ensures ∙ ap (has a.b) h.d_slot.ensures) refl
 
 pub empty_cuts_spec : {M : Type 1} → statement M
 empty_cuts_spec = tie.close (tie.spec (λ c κs. search rules) (λ c κs. search rules) (λ c κs. search rules) returns returns_2)

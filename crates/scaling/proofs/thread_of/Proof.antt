@@ -16,35 +16,35 @@ x c = (search rules, search rules)
 z : (c : tie.Start) → SFits w32 c.args.s.z × SFits w32 c.args.s.z_target
 z c = (search rules, search rules)
 
-returns : tie.Need-returns
+returns : tie.Need-returns-then-is_facing
 returns c =
-    let h = c.before in
-    let n = h.before in
-    let r = n.before in
-    let e = r.before in
-    let d7 = e.before in
-    let d6 = d7.before in
-    let d3 = d6.before in
-    let start = d3.before.before.before in
+    let h = c in
+    let n = h in
+    let r = n in
+    let e = r in
+    let d7 = e in
+    let d6 = d7 in
+    let d3 = d6 in
+    let start = d3 in
     let a = start.args in
-    thread_made a.b a.s (sym c.if1.true ∙ h.is-facing.ensures) (axis_read (x_bare a.s) (x start) refl) (axis_read (z_bare a.s) (z start) refl)
-    (r.rule-of.ensures ∙ ap rule_of d7.d-word3.ensures.0) (n.is-nominal.ensures ∙ ap is_nominal d7.d-word3.ensures.0)
-    d3.d-word.ensures.0 d6.d-word2.ensures.0 e.empty-cuts.ensures
+    thread_made a.b a.s (sym c.if-is_facing.true ∙ h.is_facing.ensures) (axis_read (x_bare a.s) (x start.before.before.before.before.before.before.before.before.before.before) refl) (axis_read (z_bare a.s) (z start.before.before.before.before.before.before.before.before.before.before) refl)
+    (r.rule_of-rule.ensures ∙ ap rule_of d7.d_word-d7.ensures.0) (n.is_nominal-nominal.ensures ∙ ap is_nominal d7.d_word-d7.ensures.0)
+    d3.d_word-d3.ensures.0 d6.d_word-d6.ensures.0 e.empty_cuts-empty.ensures
 
-returns_2 : tie.Need-returns-2
+returns_2 : tie.Need-returns
 returns_2 c =
-    let h = c.before in
-    let n = h.before in
-    let r = n.before in
-    let e = r.before in
-    let d7 = e.before in
-    let d6 = d7.before in
-    let d3 = d6.before in
-    let start = d3.before.before.before in
+    let h = c in
+    let n = h in
+    let r = n in
+    let e = r in
+    let d7 = e in
+    let d6 = d7 in
+    let d3 = d6 in
+    let start = d3 in
     let a = start.args in
-    thread_made a.b a.s (sym c.if1.false ∙ h.is-facing.ensures) (axis_read (x_bare a.s) (x start) refl) (axis_read (z_bare a.s) (z start) refl)
-    (r.rule-of.ensures ∙ ap rule_of d7.d-word3.ensures.0) (n.is-nominal.ensures ∙ ap is_nominal d7.d-word3.ensures.0)
-    d3.d-word.ensures.0 d6.d-word2.ensures.0 e.empty-cuts.ensures
+    thread_made a.b a.s (sym c.if-is_facing.false ∙ h.is_facing.ensures) (axis_read (x_bare a.s) (x start.before.before.before.before.before.before.before.before.before.before) refl) (axis_read (z_bare a.s) (z start.before.before.before.before.before.before.before.before.before.before) refl)
+    (r.rule_of-rule.ensures ∙ ap rule_of d7.d_word-d7.ensures.0) (n.is_nominal-nominal.ensures ∙ ap is_nominal d7.d_word-d7.ensures.0)
+    d3.d_word-d3.ensures.0 d6.d_word-d6.ensures.0 e.empty_cuts-empty.ensures
 
 pub thread_of_spec : {M : Type 1} → statement M
 thread_of_spec =

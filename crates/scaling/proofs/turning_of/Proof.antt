@@ -16,23 +16,23 @@ x c = (search rules, search rules)
 z : (c : tie.Start) → SFits w32 c.args.s.z × SFits w32 c.args.s.z_target
 z c = (search rules, search rules)
 
-returns : tie.Need-returns
+returns : tie.Need-returns-then-is_facing
 returns c =
-    let h = c.before in
-    let d2 = h.before.before.before in
-    let d0 = d2.before.before in
-    let a = d0.before.args in
-    cycle_made a.b a.s (sym c.if1.true ∙ h.is-facing.ensures) (axis_read (x_axis a.b a.s) (x d0.before) (omega (arith, d0.d-word.ensures.0)))
-    (axis_read (z_axis a.b a.s) (z d0.before) d2.d-word2.ensures.0) h.before.d-word3.ensures.0
+    let h = c in
+    let d2 = h in
+    let d0 = d2 in
+    let a = d0.args in
+    cycle_made a.b a.s (sym c.if-is_facing.true ∙ h.is_facing.ensures) (axis_read (x_axis a.b a.s) (x d0.before.before.before.before.before.before.before) (omega (arith, d0.d_word.ensures.0)))
+    (axis_read (z_axis a.b a.s) (z d0.before.before.before.before.before.before.before) d2.d_word-2.ensures.0) h.d_word-d3.ensures.0
 
-returns_2 : tie.Need-returns-2
+returns_2 : tie.Need-returns
 returns_2 c =
-    let h = c.before in
-    let d2 = h.before.before.before in
-    let d0 = d2.before.before in
-    let a = d0.before.args in
-    cycle_made a.b a.s (sym c.if1.false ∙ h.is-facing.ensures) (axis_read (x_axis a.b a.s) (x d0.before) (omega (arith, d0.d-word.ensures.0)))
-    (axis_read (z_axis a.b a.s) (z d0.before) d2.d-word2.ensures.0) h.before.d-word3.ensures.0
+    let h = c in
+    let d2 = h in
+    let d0 = d2 in
+    let a = d0.args in
+    cycle_made a.b a.s (sym c.if-is_facing.false ∙ h.is_facing.ensures) (axis_read (x_axis a.b a.s) (x d0.before.before.before.before.before.before.before) (omega (arith, d0.d_word.ensures.0)))
+    (axis_read (z_axis a.b a.s) (z d0.before.before.before.before.before.before.before) d2.d_word-2.ensures.0) h.d_word-d3.ensures.0
 
 pub turning_of_spec : {M : Type 1} → statement M
 turning_of_spec =

@@ -22,337 +22,337 @@ use Rattle.reading.proofs.Going.{Going, whole, starts, row_ascends, size_is, cou
 use Rattle.scanning.proofs.read_lines.Statement.{statement}
 use Rattle.scanning.proofs.read_lines.Tie as tie
 
-abbrev invariant_loop : tie.invariant-loop
+abbrev invariant_loop : tie.invariant-loop-p
 invariant_loop tape first points places₀ present₀ count₀ p₀ places present count p = Going points tape first places₀ places present count p
 
-abbrev decreases_loop : tie.decreases-loop
+abbrev decreases_loop : tie.decreases-loop-p
 decreases_loop tape first points places₀ present₀ count₀ p₀ places present count p = length tape - p
 
 -- ---- a line that was judged, and shows neither 7, 5 nor 21
-module _ (e : tie.Else3 invariant_loop decreases_loop) where
-  abbrev at : tie.At-loop invariant_loop decreases_loop
+module _ (e : tie.Else-points-judged invariant_loop decreases_loop) where
+  abbrev at : tie.At-loop-p invariant_loop decreases_loop
   at = e.before.before.before.before.before.before.before
 
   abbrev points : Bool
-  points = at.before.before.before.args.points
+  points = at.args.points
 
   abbrev tape : List ℕ
-  tape = at.before.before.before.args.tape.now
+  tape = at.args.tape.now
 
   abbrev first : ℕ
-  first = at.before.before.before.args.first
+  first = at.args.first
 
   abbrev places₀ : List ℕ
-  places₀ = at.before.before.before.args.places.now
+  places₀ = at.args.places.now
 
   abbrev line : Line
-  line = e.before.before.before.before.before.line_at_lem.result
+  line = e.line_at-line.result
 
   abbrev judgement : Judged
-  judgement = e.before.before.before.judge-line.result
+  judgement = e.judge_line-judged.result
 
-  abbrev g : Going points tape first places₀ at.loop.places at.loop.present at.loop.count at.loop.p
-  g = at.loop.inv
+  abbrev g : Going points tape first places₀ at.loop-p.places at.loop-p.present at.loop-p.count at.loop-p.p
+  g = at.loop-p.invariant
 
-  abbrev inside : at.loop.p < length tape
-  inside = e.before.before.before.before.before.before.if1.left
+  abbrev inside : at.loop-p.p < length tape
+  inside = e.if-p-tape.false
 
-  further : at.loop.p < line.after
-  further = e.before.before.before.before.before.line_at_lem.ensures.1.onward inside
+  further : at.loop-p.p < line.after
+  further = e.line_at-line.ensures.1.onward inside
 
   within : line.after ≤ length tape
-  within = e.before.before.before.before.before.line_at_lem.ensures.1.ends
+  within = e.line_at-line.ensures.1.ends
 
-  near : at.loop.p < sixteen_bits
-  near = omega (arith, inside, at.before.before.before.pre.1)
+  near : at.loop-p.p < sixteen_bits
+  near = omega (arith, inside, at.requires.1)
 
   -- what an alarm of this line answers
   abbrev Answers : ℕ → Type 0
   Answers n =
-      (record { read = Alarm n at.loop.p; count = at.loop.count } ≡ told (whole points tape first (length places₀)))
-      × (at.loop.places ≡ places_behind (whole points tape first (length places₀)).row places₀)
+      (record { read = Alarm n at.loop-p.p; count = at.loop-p.count } ≡ told (whole points tape first (length places₀)))
+      × (at.loop-p.places ≡ places_behind (whole points tape first (length places₀)).row places₀)
 
   refused_as : (head : Head) → judgement.head ≡ head → (n : ℕ) → head_alarm g.history head judgement.broken ≡ suc n → Answers (suc n)
   refused_as head is n a =
-      answered g (Alarm (suc n) at.loop.p)
-      (refused g inside line e.before.before.before.before.before.line_at_lem.ensures.0 judgement e.before.before.before.judge-line.ensures e.before.before.if2.left e.if3.left head is n a)
+      answered g (Alarm (suc n) at.loop-p.p)
+      (refused g inside line e.line_at-line.ensures.0 judgement e.judge_line-judged.ensures e.if-alarm-ne0.false e.if-points-judged.false head is n a)
 
   full_as : (head : Head) → judgement.head ≡ head → head_alarm g.history head judgement.broken ≡ 0 → room_alarm (length places₀) g.filled.row head ≡ places_too_short → Answers places_too_short
   full_as head is a r =
-      answered g (Alarm places_too_short at.loop.p)
-      (refused_room g inside line e.before.before.before.before.before.line_at_lem.ensures.0 judgement e.before.before.before.judge-line.ensures e.before.before.if2.left e.if3.left head is a r)
+      answered g (Alarm places_too_short at.loop-p.p)
+      (refused_room g inside line e.line_at-line.ensures.0 judgement e.judge_line-judged.ensures e.if-alarm-ne0.false e.if-points-judged.false head is a r)
 
   onward_as : (head : Head) → judgement.head ≡ head → head_alarm g.history head judgement.broken ≡ 0 → room_alarm (length places₀) g.filled.row head ≡ 0
       → ends_with head judgement.ends ≡ false
       → whole points tape first (length places₀)
-      ≡ read_lines_with points (length places₀) first (length tape) (noted g.history head) (filed g.filled head at.loop.p) (lines tape line.after)
+      ≡ read_lines_with points (length places₀) first (length tape) (noted g.history head) (filed g.filled head at.loop-p.p) (lines tape line.after)
   onward_as head is a r f =
-      onward g inside line e.before.before.before.before.before.line_at_lem.ensures.0 judgement e.before.before.before.judge-line.ensures e.before.before.if2.left e.if3.left head is a r f
+      onward g inside line e.line_at-line.ensures.0 judgement e.judge_line-judged.ensures e.if-alarm-ne0.false e.if-points-judged.false head is a r f
 
-loop_holds : tie.Need-loop-init invariant_loop decreases_loop
-loop_holds c = let a = c.before.before.args in starts a.points a.tape.now a.first a.places.now (omega arith)
+loop_holds : tie.Need-loop-p-init invariant_loop decreases_loop
+loop_holds c = let a = c.args in starts a.points a.tape.now a.first a.places.now (omega arith)
 
-same_length : tie.Need-same-length invariant_loop decreases_loop
-same_length c = size_is c.before.loop.invariant
+same_length : tie.Need-shape_of-places-then-p-tape invariant_loop decreases_loop
+same_length c = size_is c.loop-p.invariant
 
-returns : tie.Need-returns invariant_loop decreases_loop
-returns c = answered c.before.loop.invariant _ (at_end c.before.loop.invariant c.if1.true)
+returns : tie.Need-returns-then-p-tape invariant_loop decreases_loop
+returns c = answered c.loop-p.invariant _ (at_end c.loop-p.invariant c.if-p-tape.true)
 
-line_at_requires : tie.Need-line-at-requires invariant_loop decreases_loop
-line_at_requires c κs = c.before.loop.invariant.here
+line_at_requires : tie.Need-line_at-line-requires invariant_loop decreases_loop
+line_at_requires c κs = c.loop-p.invariant.here
 
-sub_judge_line : tie.Need-overflow-sub-judge-line invariant_loop decreases_loop
-sub_judge_line c = c.line_at_lem.ensures.1.begins
+sub_judge_line : tie.Need-slice_bounds-judge_line-count invariant_loop decreases_loop
+sub_judge_line c = c.line_at-line.ensures.1.begins
 
-part_judge_line_start : tie.Need-slice-bounds-judge-line-start invariant_loop decreases_loop
-part_judge_line_start c = c.line_at_lem.ensures.1.begins
+part_judge_line_start : tie.Need-slice_bounds-judge_line-start invariant_loop decreases_loop
+part_judge_line_start c = c.line_at-line.ensures.1.begins
 
-part_judge_line_end : tie.Need-slice-bounds-judge-line-end invariant_loop decreases_loop
-part_judge_line_end c = c.line_at_lem.ensures.1.text
+part_judge_line_end : tie.Need-slice_bounds-judge_line-end invariant_loop decreases_loop
+part_judge_line_end c = c.line_at-line.ensures.1.text
 
-same_length_2 : tie.Need-same-length-2 invariant_loop decreases_loop
-same_length_2 c = size_is c.before.before.before.before.before.loop.invariant
+same_length_2 : tie.Need-shape_of-places-then-alarm-ne0 invariant_loop decreases_loop
+same_length_2 c = size_is c.loop-p.invariant
 
-returns_2 : tie.Need-returns-2 invariant_loop decreases_loop
+returns_2 : tie.Need-returns-then-alarm-ne0 invariant_loop decreases_loop
 returns_2 c =
-    let k = c.before in
-    let m = k.before.before in
-    answered m.before.before.loop.invariant _
-    (refused_itself m.before.before.loop.invariant m.before.if1.false m.line_at_lem.result m.line_at_lem.ensures.0 k.judge-line.result k.judge-line.ensures c.if2.true)
+    let k = c in
+    let m = k in
+    answered m.loop-p.invariant _
+    (refused_itself m.loop-p.invariant m.if-p-tape.false m.line_at-line.result m.line_at-line.ensures.0 k.judge_line-judged.result k.judge_line-judged.ensures c.if-alarm-ne0.true)
 
-same_length_3 : tie.Need-same-length-3 invariant_loop decreases_loop
-same_length_3 c = size_is c.before.before.before.before.before.before.before.loop.invariant
+same_length_3 : tie.Need-shape_of-places-then-points-judged invariant_loop decreases_loop
+same_length_3 c = size_is c.loop-p.invariant
 
-returns_3 : tie.Need-returns-3 invariant_loop decreases_loop
+returns_3 : tie.Need-returns-then-points-judged invariant_loop decreases_loop
 returns_3 c =
-    let e = c.before.before in
-    let k = e.before in
-    let m = k.before.before in
-    answered m.before.before.loop.invariant _
-    (refused_pointless m.before.before.loop.invariant m.before.if1.false m.line_at_lem.result m.line_at_lem.ensures.0 k.judge-line.result k.judge-line.ensures e.if2.false c.if3.true)
+    let e = c in
+    let k = e in
+    let m = k in
+    answered m.loop-p.invariant _
+    (refused_pointless m.loop-p.invariant m.if-p-tape.false m.line_at-line.result m.line_at-line.ensures.0 k.judge_line-judged.result k.judge_line-judged.ensures e.if-alarm-ne0.false c.if-points-judged.true)
 
-loop_less : tie.Need-loop-smaller invariant_loop decreases_loop
-loop_less c = let e = c.before.before in omega (arith, further e, within e)
+loop_less : tie.Need-loop-p-smaller-in-Blank invariant_loop decreases_loop
+loop_less c = let e = c in omega (arith, further e.before, within e.before)
 
-loop_again : tie.Need-loop-preserved invariant_loop decreases_loop
+loop_again : tie.Need-loop-p-preserved-in-Blank invariant_loop decreases_loop
 loop_again c =
-    let e = c.before.before in
-    past_blank (g e) (line e).after (further e) (within e)
-    (onward_as e Blank c.enum_told.given.1 (blank_none (g e).history (judgement e).broken) (blank_room (length (places₀ e)) (g e).filled.row) (blank_on (judgement e).ends))
+    let e = c in
+    past_blank (g e.before) (line e.before).after (further e.before) (within e.before)
+    (onward_as e.before Blank c.in-Blank.is (blank_none (g e.before).history (judgement e.before).broken) (blank_room (length (places₀ e.before)) (g e.before).filled.row) (blank_on (judgement e.before).ends))
 
-same_length_4 : tie.Need-same-length-4 invariant_loop decreases_loop
-same_length_4 c = size_is (g c.before.before)
+same_length_4 : tie.Need-shape_of-places-in-Other invariant_loop decreases_loop
+same_length_4 c = size_is (g c.before)
 
-returns_4 : tie.Need-returns-4 invariant_loop decreases_loop
+returns_4 : tie.Need-returns-in-Other invariant_loop decreases_loop
 returns_4 c =
-    let e = c.before.before in
-    let lacks = c.enum-told2.given.0.0 in
-    refused_as e (Other lacks) c.enum-told2.given.1 5 (other_start (g e).history lacks (judgement e).broken)
+    let e = c in
+    let lacks = c.in-Other.field-0 in
+    refused_as e.before (Other lacks) c.in-Other.is 5 (other_start (g e.before).history lacks (judgement e.before).broken)
 
 -- ---- a program line
-same_length_5 : tie.Need-same-length-5 invariant_loop decreases_loop
-same_length_5 c = size_is (g c.before.before.before.before)
+same_length_5 : tie.Need-shape_of-places-then-n-gt-HIGHEST_PROGRAM invariant_loop decreases_loop
+same_length_5 c = size_is (g c.before.before)
 
-returns_5 : tie.Need-returns-5 invariant_loop decreases_loop
+returns_5 : tie.Need-returns-then-n-gt-HIGHEST_PROGRAM invariant_loop decreases_loop
 returns_5 c =
-    let h = c.before.before in
-    let e = h.before.before in
-    refused_as e (ProgramLine h.head.given.0.0) h.head.given.1 5 (program_above (g e) h.head.given.0.0 (judgement e).broken c.if4.true)
+    let h = c in
+    let e = h in
+    refused_as e.before.before (ProgramLine h.in-ProgramLine.n) h.in-ProgramLine.is 5 (program_above (g e.before.before) h.in-ProgramLine.n (judgement e.before.before).broken c.if-n-gt-HIGHEST_PROGRAM.true)
 
 holds_requires : tie.Need-holds-requires invariant_loop decreases_loop
-holds_requires c κs = let e = c.before.before.before.before.before.before in (count_in_lem (g e), row_ascends (g e))
+holds_requires c κs = let e = c in (count_in_lem (g e.before.before.before), row_ascends (g e.before.before.before))
 
 module _ (w : tie.After-holds invariant_loop decreases_loop) where
-  abbrev e3 : tie.Else3 invariant_loop decreases_loop
-  e3 = w.before.before.before.before.before.before.before
+  abbrev e3 : tie.Else-points-judged invariant_loop decreases_loop
+  e3 = w.before.before.before.before
 
   abbrev n3 : ℕ
-  n3 = w.before.before.before.before.before.head.given.0.0
+  n3 = w.in-ProgramLine.n
 
   is3 : (judgement e3).head ≡ ProgramLine n3
-  is3 = w.before.before.before.before.before.head.given.1
+  is3 = w.in-ProgramLine.is
 
   repeated3 : w.holds.result ≡ true → head_alarm (g e3).history (ProgramLine n3) (judgement e3).broken ≡ 6
   repeated3 t =
-      program_repeated (g e3) n3 (judgement e3).broken w.before.before.before.if4.left w.before.before.key_of.result w.before.before.key_of.ensures w.holds.result w.holds.ensures t
+      program_repeated (g e3) n3 (judgement e3).broken w.if-n-gt-HIGHEST_PROGRAM.false w.key_of-key.result w.key_of-key.ensures w.holds.result w.holds.ensures t
 
   new3 : w.holds.result ≡ false → head_alarm (g e3).history (ProgramLine n3) (judgement e3).broken ≡ cond (judgement e3).broken word_rules 0
   new3 t =
-      program_new (g e3) n3 (judgement e3).broken w.before.before.before.if4.left w.before.before.key_of.result w.before.before.key_of.ensures w.holds.result w.holds.ensures t
+      program_new (g e3) n3 (judgement e3).broken w.if-n-gt-HIGHEST_PROGRAM.false w.key_of-key.result w.key_of-key.ensures w.holds.result w.holds.ensures t
 
   by3 : {t : Bool} → w.holds.result ≡ false → (judgement e3).broken ≡ t → head_alarm (g e3).history (ProgramLine n3) (judgement e3).broken ≡ cond t word_rules 0
   by3 f b = new3 f ∙ ap (λ (t : Bool). cond t word_rules 0) b
 
-same_length_6 : tie.Need-same-length-6 invariant_loop decreases_loop
+same_length_6 : tie.Need-shape_of-places-then-holds invariant_loop decreases_loop
 same_length_6 c = size_is (g (e3 c.before))
 
-returns_6 : tie.Need-returns-6 invariant_loop decreases_loop
-returns_6 c = let w = c.before in refused_as (e3 w) (ProgramLine (n3 w)) (is3 w) 5 (repeated3 w c.if5.true)
+returns_6 : tie.Need-returns-then-holds invariant_loop decreases_loop
+returns_6 c = let w = c in refused_as (e3 w.before) (ProgramLine (n3 w.before)) (is3 w.before) 5 (repeated3 w.before c.if-holds.true)
 
-same_length_7 : tie.Need-same-length-7 invariant_loop decreases_loop
+same_length_7 : tie.Need-shape_of-places-then-judged invariant_loop decreases_loop
 same_length_7 c = size_is (g (e3 c.before.before))
 
-returns_7 : tie.Need-returns-7 invariant_loop decreases_loop
-returns_7 c = let w = c.before.before in refused_as (e3 w) (ProgramLine (n3 w)) (is3 w) 8 (by3 w c.before.if5.false c.if6.true)
+returns_7 : tie.Need-returns-then-judged invariant_loop decreases_loop
+returns_7 c = let w = c in refused_as (e3 w.before.before) (ProgramLine (n3 w.before.before)) (is3 w.before.before) 8 (by3 w.before.before c.if-holds.false c.if-judged.true)
 
-same_length_8 : tie.Need-same-length-8 invariant_loop decreases_loop
+same_length_8 : tie.Need-shape_of-places-then-count-places invariant_loop decreases_loop
 same_length_8 c = size_is (g (e3 c.before.before.before))
 
-returns_8 : tie.Need-returns-8 invariant_loop decreases_loop
+returns_8 : tie.Need-returns-then-count-places invariant_loop decreases_loop
 returns_8 c =
-    let w = c.before.before.before in
-    full_as (e3 w) (ProgramLine (n3 w)) (is3 w) (by3 w c.before.before.if5.false c.before.if6.false) (program_none (g (e3 w)) (n3 w) c.if7.true)
+    let w = c in
+    full_as (e3 w.before.before.before) (ProgramLine (n3 w.before.before.before)) (is3 w.before.before.before) (by3 w.before.before.before c.if-holds.false c.if-judged.false) (program_none (g (e3 w.before.before.before)) (n3 w.before.before.before) c.if-count-places.true)
 
-entry_of_requires : tie.Need-entry-of-requires invariant_loop decreases_loop
+entry_of_requires : tie.Need-entry_of-entry-requires invariant_loop decreases_loop
 entry_of_requires c κs =
-    let w = c.before.before.before in
-    (omega (arith, w.before.before.key_of.ensures, w.before.before.before.if4.false), near (e3 w))
+    let w = c in
+    (omega (arith, w.key_of-key.ensures, w.if-n-gt-HIGHEST_PROGRAM.false), near (e3 w.before.before.before))
 
 insert_requires : tie.Need-insert-requires invariant_loop decreases_loop
-insert_requires c κs = (c.before.before.if7.false, row_ascends (g (e3 c.before.before.before.before.before)))
+insert_requires c κs = (c.if-count-places.false, row_ascends (g (e3 c.before.before.before.before.before)))
 
-add_count : tie.Need-overflow-add-count invariant_loop decreases_loop
+add_count : tie.Need-overflow_add-count invariant_loop decreases_loop
 add_count c =
-    let r = c.before.before.before.before.before in
-    let e = e3 r.before.before.before in
+    let r = c in
+    let e = e3 r.before.before.before.before.before.before.before.before in
     omega (arith, (g e).few, near e)
 
-loop_less_2 : tie.Need-loop-smaller-2 invariant_loop decreases_loop
+loop_less_2 : tie.Need-loop-p-smaller-in-ProgramLine invariant_loop decreases_loop
 loop_less_2 c = let e = e3 c.before.before.before.before.before.before.before.before in omega (arith, further e, within e)
 
-loop_again_2 : tie.Need-loop-preserved-2 invariant_loop decreases_loop
+loop_again_2 : tie.Need-loop-p-preserved-in-ProgramLine invariant_loop decreases_loop
 loop_again_2 c =
-    let i = c.before.before in
-    let o = i.before.before in
-    let r = o.before in
-    let w = r.before.before.before in
-    let e = e3 w in
-    past_program (g e) (line e).after (further e) (within e) (near e) (n3 w) i.insert.new.0 o.entry_of.result r.if7.false i.insert.ensures
-    (omega (arith, w.before.before.before.if4.false))
-    (program_flag (g e) (n3 w) (judgement e).broken w.before.before.before.if4.false w.before.before.key_of.result w.before.before.key_of.ensures w.holds.result w.holds.ensures ∙ r.before.before.if5.false)
-    (o.entry_of.ensures ∙ ap (λ (k : ℕ). entry_of k (at e).loop.p) w.before.before.key_of.ensures)
-    (onward_as e (ProgramLine (n3 w)) (is3 w) (by3 w r.before.before.if5.false r.before.if6.false) (program_room (g e) (n3 w) r.if7.false) (program_on (n3 w) (judgement e).ends))
+    let i = c in
+    let o = i in
+    let r = o in
+    let w = r in
+    let e = e3 w.before.before.before.before.before.before.before.before in
+    past_program (g e) (line e).after (further e) (within e) (near e) (n3 w.before.before.before.before.before.before.before.before) i.insert.new.table o.entry_of-entry.result r.if-count-places.false i.insert.ensures
+    (omega (arith, w.if-n-gt-HIGHEST_PROGRAM.false))
+    (program_flag (g e) (n3 w.before.before.before.before.before.before.before.before) (judgement e).broken w.if-n-gt-HIGHEST_PROGRAM.false w.key_of-key.result w.key_of-key.ensures w.holds.result w.holds.ensures ∙ r.if-holds.false)
+    (o.entry_of-entry.ensures ∙ ap (λ (k : ℕ). entry_of k (at e).loop-p.p) w.key_of-key.ensures)
+    (onward_as e (ProgramLine (n3 w.before.before.before.before.before.before.before.before)) (is3 w.before.before.before.before.before.before.before.before) (by3 w.before.before.before.before.before.before.before.before r.if-holds.false r.if-judged.false) (program_room (g e) (n3 w.before.before.before.before.before.before.before.before) r.if-count-places.false) (program_on (n3 w.before.before.before.before.before.before.before.before) (judgement e).ends))
 
 -- ---- a block line
 -- its number has at most four digits
-small : (h : tie.After-head2 invariant_loop decreases_loop) → h.head2.given.0.0 < 10000
+small : (h : tie.In-BlockLine invariant_loop decreases_loop) → h.in-BlockLine.n < 10000
 small h =
-    let k = h.before.before.before.before.before in
-    subst HeadIn h.head2.given.1 (subst (λ (j : Judged). HeadIn j.head) (sym k.judge-line.ensures) (judged_in _))
+    let k = h in
+    subst HeadIn h.in-BlockLine.is (subst (λ (j : Judged). HeadIn j.head) (sym k.judge_line-judged.ensures) (judged_in _))
 
-add_slot : tie.Need-overflow-add-slot invariant_loop decreases_loop
-add_slot c = omega (arith, small c.before)
+add_slot : tie.Need-overflow_add-slot invariant_loop decreases_loop
+add_slot c = omega (arith, small c)
 
-key_of_requires_2 : tie.Need-key-of-requires-2 invariant_loop decreases_loop
-key_of_requires_2 c κs = omega (arith, small c.before)
+key_of_requires_2 : tie.Need-key_of-own-requires invariant_loop decreases_loop
+key_of_requires_2 c κs = omega (arith, small c)
 
-holds_requires_2 : tie.Need-holds-requires-2 invariant_loop decreases_loop
-holds_requires_2 c κs = let e = c.before.before.before.before.before in (count_in_lem (g e), row_ascends (g e))
+holds_requires_2 : tie.Need-holds-requires-in-BlockLine invariant_loop decreases_loop
+holds_requires_2 c κs = let e = c in (count_in_lem (g e.before.before), row_ascends (g e.before.before))
 
-module _ (w : tie.After-holds2 invariant_loop decreases_loop) where
-  abbrev h4 : tie.After-head2 invariant_loop decreases_loop
-  h4 = w.before.before.before.before
+module _ (w : tie.After-holds-in-BlockLine invariant_loop decreases_loop) where
+  abbrev h4 : tie.In-BlockLine invariant_loop decreases_loop
+  h4 = w.before.before
 
-  abbrev e4 : tie.Else3 invariant_loop decreases_loop
-  e4 = h4.before.before
+  abbrev e4 : tie.Else-points-judged invariant_loop decreases_loop
+  e4 = h4.before
 
   abbrev n4 : ℕ
-  n4 = h4.head2.given.0.0
+  n4 = h4.in-BlockLine.n
 
   is4 : (judgement e4).head ≡ BlockLine n4
-  is4 = h4.head2.given.1
+  is4 = h4.in-BlockLine.is
 
   low4 : n4 < highest_slot
   low4 = omega (arith, small h4)
 
-  repeated4 : w.holds2.result ≡ true → head_alarm (g e4).history (BlockLine n4) (judgement e4).broken ≡ 6
-  repeated4 t = block_repeated (g e4) n4 (judgement e4).broken low4 w.before.before.key-of2.result w.before.before.key-of2.ensures w.holds2.result w.holds2.ensures t
+  repeated4 : w.holds-in-BlockLine.result ≡ true → head_alarm (g e4).history (BlockLine n4) (judgement e4).broken ≡ 6
+  repeated4 t = block_repeated (g e4) n4 (judgement e4).broken low4 w.key_of-own.result w.key_of-own.ensures w.holds-in-BlockLine.result w.holds-in-BlockLine.ensures t
 
-  new4 : w.holds2.result ≡ false → head_alarm (g e4).history (BlockLine n4) (judgement e4).broken ≡ cond (judgement e4).broken word_rules 0
-  new4 t = block_new (g e4) n4 (judgement e4).broken low4 w.before.before.key-of2.result w.before.before.key-of2.ensures w.holds2.result w.holds2.ensures t
+  new4 : w.holds-in-BlockLine.result ≡ false → head_alarm (g e4).history (BlockLine n4) (judgement e4).broken ≡ cond (judgement e4).broken word_rules 0
+  new4 t = block_new (g e4) n4 (judgement e4).broken low4 w.key_of-own.result w.key_of-own.ensures w.holds-in-BlockLine.result w.holds-in-BlockLine.ensures t
 
-  by4 : {t : Bool} → w.holds2.result ≡ false → (judgement e4).broken ≡ t → head_alarm (g e4).history (BlockLine n4) (judgement e4).broken ≡ cond t word_rules 0
+  by4 : {t : Bool} → w.holds-in-BlockLine.result ≡ false → (judgement e4).broken ≡ t → head_alarm (g e4).history (BlockLine n4) (judgement e4).broken ≡ cond t word_rules 0
   by4 f b = new4 f ∙ ap (λ (t : Bool). cond t word_rules 0) b
 
-same_length_9 : tie.Need-same-length-9 invariant_loop decreases_loop
+same_length_9 : tie.Need-shape_of-places-then-holds-2 invariant_loop decreases_loop
 same_length_9 c = size_is (g (e4 c.before))
 
-returns_9 : tie.Need-returns-9 invariant_loop decreases_loop
-returns_9 c = let w = c.before in refused_as (e4 w) (BlockLine (n4 w)) (is4 w) 5 (repeated4 w c.if8.true)
+returns_9 : tie.Need-returns-then-holds-2 invariant_loop decreases_loop
+returns_9 c = let w = c in refused_as (e4 w.before) (BlockLine (n4 w.before)) (is4 w.before) 5 (repeated4 w.before c.if-holds-2.true)
 
-same_length_10 : tie.Need-same-length-10 invariant_loop decreases_loop
+same_length_10 : tie.Need-shape_of-places-then-judged-2 invariant_loop decreases_loop
 same_length_10 c = size_is (g (e4 c.before.before))
 
-returns_10 : tie.Need-returns-10 invariant_loop decreases_loop
-returns_10 c = let w = c.before.before in refused_as (e4 w) (BlockLine (n4 w)) (is4 w) 8 (by4 w c.before.if8.false c.if9.true)
+returns_10 : tie.Need-returns-then-judged-2 invariant_loop decreases_loop
+returns_10 c = let w = c in refused_as (e4 w.before.before) (BlockLine (n4 w.before.before)) (is4 w.before.before) 8 (by4 w.before.before c.if-holds-2.false c.if-judged-2.true)
 
-same_length_11 : tie.Need-same-length-11 invariant_loop decreases_loop
+same_length_11 : tie.Need-shape_of-places-then-count-places-2 invariant_loop decreases_loop
 same_length_11 c = size_is (g (e4 c.before.before.before))
 
-returns_11 : tie.Need-returns-11 invariant_loop decreases_loop
+returns_11 : tie.Need-returns-then-count-places-2 invariant_loop decreases_loop
 returns_11 c =
-    let w = c.before.before.before in
-    full_as (e4 w) (BlockLine (n4 w)) (is4 w) (by4 w c.before.before.if8.false c.before.if9.false) (block_none (g (e4 w)) (n4 w) c.if10.true)
+    let w = c in
+    full_as (e4 w.before.before.before) (BlockLine (n4 w.before.before.before)) (is4 w.before.before.before) (by4 w.before.before.before c.if-holds-2.false c.if-judged-2.false) (block_none (g (e4 w.before.before.before)) (n4 w.before.before.before) c.if-count-places-2.true)
 
 -- the block is accepted
-module _ (r : tie.Else10 invariant_loop decreases_loop) where
-  abbrev w5 : tie.After-holds2 invariant_loop decreases_loop
+module _ (r : tie.Else-count-places-2 invariant_loop decreases_loop) where
+  abbrev w5 : tie.After-holds-in-BlockLine invariant_loop decreases_loop
   w5 = r.before.before.before
 
   accepted5 : head_alarm (g (e4 w5)).history (BlockLine (n4 w5)) (judgement (e4 w5)).broken ≡ 0
-  accepted5 = by4 w5 r.before.before.if8.left r.before.if9.left
+  accepted5 = by4 w5 r.if-holds-2.false r.if-judged-2.false
 
   room5 : room_alarm (length (places₀ (e4 w5))) (g (e4 w5)).filled.row (BlockLine (n4 w5)) ≡ 0
-  room5 = block_room (g (e4 w5)) (n4 w5) r.if10.left
+  room5 = block_room (g (e4 w5)) (n4 w5) r.if-count-places-2.false
 
-entry_of_requires_2 : tie.Need-entry-of-requires-2 invariant_loop decreases_loop
+entry_of_requires_2 : tie.Need-entry_of-entry-requires-in-BlockLine invariant_loop decreases_loop
 entry_of_requires_2 c κs =
     let w = w5 c in
-    (omega (arith, w.before.before.key-of2.ensures, small (h4 w), (g (e4 w)).low), near (e4 w))
+    (omega (arith, w.key_of-own.ensures, small (h4 w), (g (e4 w)).low), near (e4 w))
 
-insert_requires_2 : tie.Need-insert-requires-2 invariant_loop decreases_loop
-insert_requires_2 c κs = (c.before.before.if10.false, row_ascends (g (e4 (w5 c.before.before))))
+insert_requires_2 : tie.Need-insert-requires-in-BlockLine invariant_loop decreases_loop
+insert_requires_2 c κs = (c.if-count-places-2.false, row_ascends (g (e4 (w5 c.before.before))))
 
-add_count_2 : tie.Need-overflow-add-count-2 invariant_loop decreases_loop
+add_count_2 : tie.Need-overflow_add-count-in-BlockLine invariant_loop decreases_loop
 add_count_2 c =
-    let r = c.before.before.before.before.before in
-    let e = e4 (w5 r) in
+    let r = c in
+    let e = e4 (w5 r.before.before.before.before.before) in
     omega (arith, (g e).few, near e)
 
-same_length_12 : tie.Need-same-length-12 invariant_loop decreases_loop
+same_length_12 : tie.Need-shape_of-places-then-judged-3 invariant_loop decreases_loop
 same_length_12 c =
-    let i = c.before.before.before in
-    let o = i.before.before in
-    let r = o.before in
-    size_more (g (e4 (w5 r))) i.insert2.new.0 o.entry-of2.result r.if10.false i.insert2.ensures
+    let i = c in
+    let o = i in
+    let r = o in
+    size_more (g (e4 (w5 r.before.before.before.before.before.before))) i.insert-in-BlockLine.new.table o.entry_of-entry-in-BlockLine.result r.if-count-places-2.false i.insert-in-BlockLine.ensures
 
-returns_12 : tie.Need-returns-12 invariant_loop decreases_loop
+returns_12 : tie.Need-returns-then-judged-3 invariant_loop decreases_loop
 returns_12 c =
-    let i = c.before.before.before in
-    let o = i.before.before in
-    let r = o.before in
-    let w = w5 r in
+    let i = c in
+    let o = i in
+    let r = o in
+    let w = w5 r.before.before.before.before.before.before in
     let e = e4 w in
-    last_block (g e) (line e).after (further e) (within e) (near e) (n4 w) i.insert2.new.0 o.entry-of2.result r.if10.false i.insert2.ensures
-    (o.entry-of2.ensures ∙ ap (λ (k : ℕ). entry_of k (at e).loop.p) w.before.before.key-of2.ensures)
-    (ended (g e) (inside e) (line e) e.before.before.before.before.before.line_at_lem.ensures.0 (judgement e) e.before.before.before.judge-line.ensures e.before.before.if2.left e.if3.left
-    (BlockLine (n4 w)) (is4 w) (accepted5 r) (room5 r) (block_ends (n4 w) (judgement e).ends ∙ c.if11.true))
+    last_block (g e) (line e).after (further e) (within e) (near e) (n4 w) i.insert-in-BlockLine.new.table o.entry_of-entry-in-BlockLine.result r.if-count-places-2.false i.insert-in-BlockLine.ensures
+    (o.entry_of-entry-in-BlockLine.ensures ∙ ap (λ (k : ℕ). entry_of k (at e).loop-p.p) w.key_of-own.ensures)
+    (ended (g e) (inside e) (line e) e.line_at-line.ensures.0 (judgement e) e.judge_line-judged.ensures e.if-alarm-ne0.false e.if-points-judged.false
+    (BlockLine (n4 w)) (is4 w) (accepted5 r.before.before.before.before.before.before) (room5 r.before.before.before.before.before.before) (block_ends (n4 w) (judgement e).ends ∙ c.if-judged-3.true))
 
-loop_less_3 : tie.Need-loop-smaller-3 invariant_loop decreases_loop
+loop_less_3 : tie.Need-loop-p-smaller invariant_loop decreases_loop
 loop_less_3 c = let e = e4 (w5 c.before.before.before.before.before.before) in omega (arith, further e, within e)
 
-loop_again_3 : tie.Need-loop-preserved-3 invariant_loop decreases_loop
+loop_again_3 : tie.Need-loop-p-preserved invariant_loop decreases_loop
 loop_again_3 c =
-    let i = c.before.before.before in
-    let o = i.before.before in
-    let r = o.before in
-    let w = w5 r in
+    let i = c in
+    let o = i in
+    let r = o in
+    let w = w5 r.before.before.before.before.before.before in
     let e = e4 w in
-    past_block (g e) (line e).after (further e) (within e) (near e) (n4 w) i.insert2.new.0 o.entry-of2.result r.if10.false i.insert2.ensures
-    (o.entry-of2.ensures ∙ ap (λ (k : ℕ). entry_of k (at e).loop.p) w.before.before.key-of2.ensures)
+    past_block (g e) (line e).after (further e) (within e) (near e) (n4 w) i.insert-in-BlockLine.new.table o.entry_of-entry-in-BlockLine.result r.if-count-places-2.false i.insert-in-BlockLine.ensures
+    (o.entry_of-entry-in-BlockLine.ensures ∙ ap (λ (k : ℕ). entry_of k (at e).loop-p.p) w.key_of-own.ensures)
     (low4 w)
-    (block_mark (g e) (n4 w) (judgement e).broken (low4 w) w.before.before.key-of2.result w.before.before.key-of2.ensures w.holds2.result w.holds2.ensures ∙ r.before.before.if8.false)
-    (onward_as e (BlockLine (n4 w)) (is4 w) (accepted5 r) (room5 r) (block_ends (n4 w) (judgement e).ends ∙ c.if11.false))
+    (block_mark (g e) (n4 w) (judgement e).broken (low4 w) w.key_of-own.result w.key_of-own.ensures w.holds-in-BlockLine.result w.holds-in-BlockLine.ensures ∙ r.if-holds-2.false)
+    (onward_as e (BlockLine (n4 w)) (is4 w) (accepted5 r.before.before.before.before.before.before) (room5 r.before.before.before.before.before.before) (block_ends (n4 w) (judgement e).ends ∙ c.if-judged-3.false))
 
 pub read_lines_spec : {M : Type 1} → statement M
 read_lines_spec =

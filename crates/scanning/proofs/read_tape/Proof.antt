@@ -33,21 +33,21 @@ some points size s f e h = ap (by points size s) (sym e) ∙ rw (lt-ltb f (lengt
 tells : (r : TapeRead) (x : Readings) → r ≡ told x → Tells r x
 tells r x e = record { is = e; number = ap (λ (y : TapeRead). number_of y.read) e; place = ap (λ (y : TapeRead). place_of y.read) e }
 
-returns : tie.Need-returns
+returns : tie.Need-returns-then-first-tape
 returns c =
-    let f = c.before in
-    let a = f.before.before.before.args in
-    let e = none a.points (length a.places.now) a.tape.now f.first-line.result f.first-line.ensures.0 c.if1.true in
+    let f = c in
+    let a = f.args in
+    let e = none a.points (length a.places.now) a.tape.now f.first_line-first.result f.first_line-first.ensures.0 c.if-first-tape.true in
     (tells _ _ (sym (ap told e)), ap (λ (x : Readings). places_behind x.row a.places.now) (sym e))
 
-returns_2 : tie.Need-returns-2
+returns_2 : tie.Need-returns
 returns_2 c =
-    let l = c.before.before in
-    let i = l.before.before in
-    let f = i.before in
-    let a = f.before.before.before.args in
-    let e = some a.points (length a.places.now) a.tape.now f.first-line.result f.first-line.ensures.0 i.if1.false in
-    (tells _ _ (l.read-lines.ensures.0 ∙ sym (ap told e)), l.read-lines.ensures.1 ∙ ap (λ (x : Readings). places_behind x.row a.places.now) (sym e))
+    let l = c in
+    let i = l in
+    let f = i in
+    let a = f.args in
+    let e = some a.points (length a.places.now) a.tape.now f.first_line-first.result f.first_line-first.ensures.0 i.if-first-tape.false in
+    (tells _ _ (l.read_lines.ensures.0 ∙ sym (ap told e)), l.read_lines.ensures.1 ∙ ap (λ (x : Readings). places_behind x.row a.places.now) (sym e))
 
 pub read_tape_spec : {M : Type 1} → statement M
 read_tape_spec = tie.close (tie.spec (λ c κs. search rules) returns (λ c κs. search rules) (λ c. search rules) returns_2)

@@ -10,16 +10,16 @@ use Rattle.settings.specs.Limits.{outside_span}
 use Rattle.settings.proofs.outside_span.Statement.{statement}
 use Rattle.settings.proofs.outside_span.Tie as tie
 
-same_lowest : (c : tie.After-struct-told) → to_z w32 (of_z w32 c.before.before.args.s.lowest) ≡ c.before.before.args.s.lowest
+same_lowest : (c : tie.After-struct_told-1) → to_z w32 (of_z w32 c.args.s.lowest) ≡ c.args.s.lowest
 same_lowest c = search rules
 
-same_highest : (c : tie.After-struct-told2) → to_z w32 (of_z w32 c.before.before.before.before.args.s.highest) ≡ c.before.before.before.before.args.s.highest
+same_highest : (c : tie.After-struct_told-2-1) → to_z w32 (of_z w32 c.args.s.highest) ≡ c.args.s.highest
 same_highest c = search rules
 
 returns : tie.Need-returns
 unfolding outside_span
 returns c =
-    let s = c.before.before.before.before in
+    let s = c in
     let same : to_z w32 (of_z w32 s.args.v) ≡ s.args.v = to_z-of_z s.ranges.v in
     λ i. lt_z (same i) (same_lowest c.before.before i) || lt_z (same_highest c i) (same i)
 

@@ -12,13 +12,13 @@ use Rattle.settings.proofs.settings_wrong.Tie as tie
 returns : tie.Need-returns
 unfolding settings_wrong
 returns c =
-    let s = c.before.before.before.before.before.before.before.before.before.before.before in
+    let s = c in
     let x : to_z w32 (of_z w32 s.args.set.x) ≡ s.args.set.x = search rules in
     let z : to_z w32 (of_z w32 s.args.set.z) ≡ s.args.set.z = search rules in
-    let t = c.before.before.before.before.before.before.before.table-wrong.ensures in
-    let a = c.before.before.before.span-wrong.ensures ∙ ap (span_wrong s.args.set.limits.x) x in
-    let b = c.before.span-wrong2.ensures ∙ ap (span_wrong s.args.set.limits.z) z in
-    let n = c.numbers-wrong.ensures in
+    let t = c.table_wrong.ensures in
+    let a = c.span_wrong.ensures ∙ ap (span_wrong s.args.set.limits.x) x in
+    let b = c.span_wrong-2.ensures ∙ ap (span_wrong s.args.set.limits.z) z in
+    let n = c.numbers_wrong.ensures in
     λ i. ((t i || ltb greatest_retract s.args.set.retract) || ltb greatest_empty_cuts s.args.set.empty_cuts) || ((a i || b i) || n i)
 
 pub settings_wrong_spec : {M : Type 1} → statement M

@@ -30,40 +30,40 @@ module _ (t : List ℤ) (i : ℕ) where
   out_more h true = refl
   out_more h false = rw (drop-cons t i (pos 0), add-one i)
 
-abbrev invariant_loop : tie.invariant-loop
+abbrev invariant_loop : tie.invariant-loop-i
 invariant_loop table wrong₀ i₀ wrong i = (i ≤ table_size) × (length table ≡ table_size) × (some_out table ≡ (wrong || some_out (drop i table)))
 
-abbrev decreases_loop : tie.decreases-loop
+abbrev decreases_loop : tie.decreases-loop-i
 decreases_loop table wrong₀ i₀ wrong i = table_size - i
 
-returns : tie.Need-returns invariant_loop decreases_loop
+returns : tie.Need-returns-then-table-ne-TABLE_SIZE invariant_loop decreases_loop
 unfolding table_wrong
-returns c = rw (ne_eqb _ _ c.if1.true)
+returns c = rw (ne_eqb _ _ c.if-table-ne-TABLE_SIZE.true)
 
-loop_holds : tie.Need-loop-init invariant_loop decreases_loop
-loop_holds c = (omega arith, c.if1.false, refl)
+loop_holds : tie.Need-loop-i-init invariant_loop decreases_loop
+loop_holds c = (omega arith, c.if-table-ne-TABLE_SIZE.false, refl)
 
 -- what was tested is the number at i
-told : (c : tie.After-in-table invariant_loop decreases_loop) → c.in-table.result ≡ in_table (get_or c.before.before.before.before.before.args.table.now c.before.before.before.loop.i (pos 0))
-told c = c.in-table.ensures ∙ ap in_table (to_z-of_z (sfits_of {w = w32} c.before.in-table-arg.given))
+told : (c : tie.After-in_table invariant_loop decreases_loop) → c.in_table.result ≡ in_table (get_or c.args.table.now c.loop-i.i (pos 0))
+told c = c.in_table.ensures ∙ ap in_table (to_z-of_z (sfits_of {w = w32} c.in_table-arg-1.given))
 
-loop_less : tie.Need-loop-smaller invariant_loop decreases_loop
+loop_less : tie.Need-loop-i-smaller invariant_loop decreases_loop
 loop_less c = omega arith
 
-loop_again : tie.Need-loop-preserved invariant_loop decreases_loop
+loop_again : tie.Need-loop-i-preserved invariant_loop decreases_loop
 loop_again c =
-    let l = c.before.before.before in
-    let t = l.before.before.args.table.now in
-    let o = l.loop.invariant.2 ∙ out_more t l.loop.i (omega arith) l.loop.wrong in
-    (omega arith, l.loop.invariant.1, rw (told c) o)
+    let l = c in
+    let t = l.args.table.now in
+    let o = l.loop-i.invariant.2 ∙ out_more t l.loop-i.i (omega arith) l.loop-i.wrong in
+    (omega arith, l.loop-i.invariant.1, rw (told c) o)
 
-returns_2 : tie.Need-returns-2 invariant_loop decreases_loop
+returns_2 : tie.Need-returns invariant_loop decreases_loop
 unfolding table_wrong
 returns_2 c =
-    let l = c.before in
-    let t = l.before.before.args.table.now in
-    let o = l.loop.invariant.2 ∙ out_end t l.loop.i (omega arith) l.loop.wrong in
-    rw (eq-eqb (length t) table_size l.loop.invariant.1, o)
+    let l = c in
+    let t = l.args.table.now in
+    let o = l.loop-i.invariant.2 ∙ out_end t l.loop-i.i (omega arith) l.loop-i.wrong in
+    rw (eq-eqb (length t) table_size l.loop-i.invariant.1, o)
 
 pub table_wrong_spec : {M : Type 1} → statement M
 table_wrong_spec =

@@ -12,21 +12,21 @@ use Rattle.showing.proofs.breaks_behind.Tie as tie
 by : {h k : Head} (b : Block) → h ≡ k → broken_by k b ≡ broken_by h b
 by b e = ap (λ (h : Head). broken_by h b) (sym e)
 
-returns : tie.Need-returns
+returns : tie.Need-returns-in-ProgramLine
 unfolding broken_by after_program
-returns c = by c.before.before.before.args.b c.before.enum_told.given.1
+returns c = by c.args.b c.in-ProgramLine.is
 
-returns_2 : tie.Need-returns-2
+returns_2 : tie.Need-returns-in-BlockLine
 unfolding broken_by
-returns_2 c = c.breaks-rules.ensures ∙ by c.before.before.before.args.b c.before.enum-told2.given.1
+returns_2 c = c.breaks_rules.ensures ∙ by c.args.b c.in-BlockLine.is
 
-returns_3 : tie.Need-returns-3
+returns_3 : tie.Need-returns-in-Blank
 unfolding broken_by
-returns_3 c = by c.before.before.args.b c.enum-told3.given.1
+returns_3 c = by c.args.b c.in-Blank.is
 
-returns_4 : tie.Need-returns-4
+returns_4 : tie.Need-returns-in-Other
 unfolding broken_by
-returns_4 c = by c.before.before.args.b c.enum-told4.given.1
+returns_4 c = by c.args.b c.in-Other.is
 
 pub breaks_behind_spec : {M : Type 1} → statement M
 breaks_behind_spec =

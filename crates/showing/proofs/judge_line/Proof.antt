@@ -8,35 +8,35 @@ use Rattle.showing.proofs.Bare.{judged_none, judged_short, judged_long}
 use Rattle.showing.proofs.judge_line.Statement.{statement}
 use Rattle.showing.proofs.judge_line.Tie as tie
 
-returns : tie.Need-returns
-returns c = let s = c.before.before.before in c.judged-alone.ensures ∙ sym (judged_long s.args.line.now c.before.if1.true)
+returns : tie.Need-returns-then-line-gt-LONGEST_LINE
+returns c = let s = c in c.judged_alone.ensures ∙ sym (judged_long s.args.line.now c.if-line-gt-LONGEST_LINE.true)
 
-judge_words_requires : tie.Need-judge-words-requires
+judge_words_requires : tie.Need-judge_words-requires
 judge_words_requires c κs =
-    let x = c.before in
-    let k = x.before.before in
-    let e = k.before in
-    (subst (λ (y : LineStart). StartIn y (length e.before.before.args.line.now)) x.start.given.1 k.start_of.ensures.1, e.if1.false)
+    let x = c in
+    let k = x in
+    let e = k in
+    (subst (λ (y : LineStart). StartIn y (length e.args.line.now)) x.in-With.is k.start_of-start.ensures.1, e.if-line-gt-LONGEST_LINE.false)
 
-returns_2 : tie.Need-returns-2
+returns_2 : tie.Need-returns-in-Blank
 returns_2 c =
-    let k = c.before.before.before in
-    let e = k.before in
-    c.judged-alone2.ensures ∙ sym (judged_none _) ∙ judged_short e.before.before.args.line.now e.if1.false (sym c.before.enum_told.given.1 ∙ k.start_of.ensures.0)
+    let k = c in
+    let e = k in
+    c.judged_alone-in-Blank.ensures ∙ sym (judged_none _) ∙ judged_short e.args.line.now e.if-line-gt-LONGEST_LINE.false (sym c.in-Blank.is ∙ k.start_of-start.ensures.0)
 
-returns_3 : tie.Need-returns-3
+returns_3 : tie.Need-returns-in-Fault
 unfolding faulty_rest
 returns_3 c =
-    let k = c.before.before.before in
-    let e = k.before in
-    c.judged-alone3.ensures ∙ judged_short e.before.before.args.line.now e.if1.false (sym c.before.enum-told2.given.1 ∙ k.start_of.ensures.0)
+    let k = c in
+    let e = k in
+    c.judged_alone-in-Fault.ensures ∙ judged_short e.args.line.now e.if-line-gt-LONGEST_LINE.false (sym c.in-Fault.is ∙ k.start_of-start.ensures.0)
 
-returns_4 : tie.Need-returns-4
+returns_4 : tie.Need-returns-in-With
 returns_4 c =
-    let x = c.before.before in
-    let k = x.before.before in
-    let e = k.before in
-    c.judge-words.ensures ∙ judged_short e.before.before.args.line.now e.if1.false (sym x.start.given.1 ∙ k.start_of.ensures.0)
+    let x = c in
+    let k = x in
+    let e = k in
+    c.judge_words.ensures ∙ judged_short e.args.line.now e.if-line-gt-LONGEST_LINE.false (sym x.in-With.is ∙ k.start_of-start.ensures.0)
 
 pub judge_line_spec : {M : Type 1} → statement M
 judge_line_spec =

@@ -6,8 +6,8 @@ use Rattle.showing.proofs.judged_alone.Tie as tie
 
 returns : tie.Need-returns
 returns c =
-    let a = c.before.args in
-    λ i. record { alarm = a.alarm; head = a.head; pointless = c.lacks-by.ensures i; broken = false; ends = false }
+    let a = c.args in
+    λ i. record { alarm = a.alarm; head = a.head; pointless = c.lacks_by.ensures i; broken = false; ends = false }
 
 pub judged_alone_spec : {M : Type 1} → statement M
 judged_alone_spec = tie.close (tie.spec (λ c κs. search rules) returns)

@@ -11,21 +11,21 @@ use Rattle.showing.proofs.lacks_by.Tie as tie
 by : {h k : Head} (behind : Bool) → h ≡ k → lacks_by k behind ≡ lacks_by h behind
 by behind e = ap (λ (h : Head). lacks_by h behind) (sym e)
 
-returns : tie.Need-returns
+returns : tie.Need-returns-in-Other
 unfolding lacks_by
-returns c = by c.before.before.before.args.behind c.before.head.given.1
+returns c = by c.args.behind c.in-Other.is
 
-returns_2 : tie.Need-returns-2
+returns_2 : tie.Need-returns-in-ProgramLine
 unfolding lacks_by
-returns_2 c = by c.before.before.args.behind c.enum_told.given.1
+returns_2 c = by c.args.behind c.in-ProgramLine.is
 
-returns_3 : tie.Need-returns-3
+returns_3 : tie.Need-returns-in-BlockLine
 unfolding lacks_by
-returns_3 c = by c.before.before.args.behind c.enum-told2.given.1
+returns_3 c = by c.args.behind c.in-BlockLine.is
 
-returns_4 : tie.Need-returns-4
+returns_4 : tie.Need-returns-in-Blank
 unfolding lacks_by
-returns_4 c = by c.before.before.args.behind c.enum-told3.given.1
+returns_4 c = by c.args.behind c.in-Blank.is
 
 pub lacks_by_spec : {M : Type 1} → statement M
 lacks_by_spec =

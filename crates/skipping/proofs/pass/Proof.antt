@@ -7,10 +7,10 @@ use Rattle.moves.specs.Form.{record_limit}
 use Rattle.ahead.specs.Ahead.{onto}
 use Rattle.ahead.specs.declared.Frame.{Frame}
 use Rattle.ahead.specs.declared.Onward.{Onward}
-use Rattle.taking.specs.declared.Hand.TheVariants.{Nothing}
-use Rattle.taking.specs.Hands.{Able, Falls, OpenMeets}
-use Rattle.taking.specs.Meets.{MetMeets, QuietDone, Next}
-use Rattle.taking.proofs.Stepping.{quiet_begun, quiet_opens}
+use Rattle.returning.specs.of_taking.declared.Hand.TheVariants.{Nothing}
+use Rattle.returning.specs.of_taking.Hands.{Able, Falls, OpenMeets}
+use Rattle.returning.specs.of_taking.Meets.{MetMeets, QuietDone, Next}
+use Rattle.returning.proofs.of_taking.Stepping.{quiet_begun, quiet_opens}
 use Rattle.skipping.proofs.Passing.{Passing, pass_first, pass_on, pass_jump, passed}
 use Rattle.skipping.proofs.pass.Statement.{statement}
 use Rattle.skipping.proofs.pass.Tie as tie

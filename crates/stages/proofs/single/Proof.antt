@@ -16,62 +16,62 @@ x_fits s = search rules
 z_fits : (s : tie.Start) → SFits w32 s.args.p.z_behind
 z_fits s = search rules
 
-returns : tie.Need-returns
+returns : tie.Need-returns-in-Speed
 unfolding single_of
 returns c =
-    let t = c.before.before.before in
-    let p = t.before.before.before.args.p in
+    let t = c in
+    let p = t.args.p in
     let x : to_z w32 (of_z w32 p.x) ≡ p.x = search rules in
     let z : to_z w32 (of_z w32 p.z) ≡ p.z = search rules in
-    c.speed.ensures ∙ (λ i. speed (x i) (z i) p.speed p.g96) ∙ ap (single_of p) (sym t.enum_told.given.1)
+    c.speed.ensures ∙ (λ i. speed (x i) (z i) p.speed p.g96) ∙ ap (single_of p) (sym t.in-Speed.is)
 
-returns_2 : tie.Need-returns-2
+returns_2 : tie.Need-returns-in-Tool
 unfolding single_of
 returns_2 c =
-    let t = c.before.before.before in
-    let p = t.before.before.before.args.p in
+    let t = c in
+    let p = t.args.p in
     let x : to_z w32 (of_z w32 p.x) ≡ p.x = search rules in
     let z : to_z w32 (of_z w32 p.z) ≡ p.z = search rules in
-    c.tool.ensures ∙ (λ i. tool (x i) (z i) p.tool) ∙ ap (single_of p) (sym t.enum-told2.given.1)
+    c.tool.ensures ∙ (λ i. tool (x i) (z i) p.tool) ∙ ap (single_of p) (sym t.in-Tool.is)
 
-returns_3 : tie.Need-returns-3
+returns_3 : tie.Need-returns-in-Spindle
 unfolding single_of
 returns_3 c =
-    let t = c.before.before.before in
-    let p = t.before.before.before.args.p in
+    let t = c in
+    let p = t.args.p in
     let x : to_z w32 (of_z w32 p.x) ≡ p.x = search rules in
     let z : to_z w32 (of_z w32 p.z) ≡ p.z = search rules in
-    c.miscellaneous.ensures ∙ (λ i. miscellaneous (x i) (z i) p.spindle) ∙ ap (single_of p) (sym t.enum-told3.given.1)
+    c.miscellaneous.ensures ∙ (λ i. miscellaneous (x i) (z i) p.spindle) ∙ ap (single_of p) (sym t.in-Spindle.is)
 
-returns_4 : tie.Need-returns-4
+returns_4 : tie.Need-returns-in-Coolant
 unfolding single_of
 returns_4 c =
-    let t = c.before.before.before in
-    let p = t.before.before.before.args.p in
+    let t = c in
+    let p = t.args.p in
     let x : to_z w32 (of_z w32 p.x) ≡ p.x = search rules in
     let z : to_z w32 (of_z w32 p.z) ≡ p.z = search rules in
-    c.miscellaneous2.ensures ∙ (λ i. miscellaneous (x i) (z i) p.coolant) ∙ ap (single_of p) (sym t.enum-told4.given.1)
+    c.miscellaneous-in-Coolant.ensures ∙ (λ i. miscellaneous (x i) (z i) p.coolant) ∙ ap (single_of p) (sym t.in-Coolant.is)
 
-returns_5 : tie.Need-returns-5
+returns_5 : tie.Need-returns-in-Deed
 unfolding single_of
-returns_5 c = let t = c.before in ap (single_of t.before.before.before.args.p) (sym t.enum-told5.given.1)
+returns_5 c = let t = c in ap (single_of t.args.p) (sym t.in-Deed.is)
 
-returns_6 : tie.Need-returns-6
+returns_6 : tie.Need-returns-in-Centre
 unfolding single_of
-returns_6 c = let t = c.before in ap (single_of t.before.before.before.args.p) (sym t.enum-told6.given.1)
+returns_6 c = let t = c in ap (single_of t.args.p) (sym t.in-Centre.is)
 
-returns_7 : tie.Need-returns-7
+returns_7 : tie.Need-returns-in-Stop
 unfolding single_of
 returns_7 c =
-    let t = c.before.before.before in
-    let p = t.before.before.before.args.p in
-    let x : to_z w32 (of_z w32 p.x_behind) ≡ p.x_behind = to_z-of_z (x_fits t.before.before.before) in
-    let z : to_z w32 (of_z w32 p.z_behind) ≡ p.z_behind = to_z-of_z (z_fits t.before.before.before) in
-    c.miscellaneous3.ensures ∙ (λ i. miscellaneous (x i) (z i) p.stop) ∙ ap (single_of p) (sym t.enum-told7.given.1)
+    let t = c in
+    let p = t.args.p in
+    let x : to_z w32 (of_z w32 p.x_behind) ≡ p.x_behind = to_z-of_z (x_fits t.before.before.before.before.before) in
+    let z : to_z w32 (of_z w32 p.z_behind) ≡ p.z_behind = to_z-of_z (z_fits t.before.before.before.before.before) in
+    c.miscellaneous-in-Stop.ensures ∙ (λ i. miscellaneous (x i) (z i) p.stop) ∙ ap (single_of p) (sym t.in-Stop.is)
 
-returns_8 : tie.Need-returns-8
+returns_8 : tie.Need-returns-in-Over
 unfolding single_of
-returns_8 c = let t = c.before in ap (single_of t.before.before.before.args.p) (sym t.enum-told8.given.1)
+returns_8 c = let t = c in ap (single_of t.args.p) (sym t.in-Over.is)
 
 pub single_spec : {M : Type 1} → statement M
 single_spec =

@@ -12,20 +12,20 @@ use Rattle.stands.proofs.stands_by.Tie as tie
 by : {k l : Code} → k ≡ l → stands_by l ≡ stands_by k
 by e = ap stands_by (sym e)
 
-returns : tie.Need-returns
+returns : tie.Need-returns-in-Moves
 unfolding stands_by
 returns c =
-    let m = c.before.before in
-    c.stands-with.ensures ∙ by (code_is m.before.before.before.code.given.1 m.meaning.given.1)
+    let m = c in
+    c.stands_with.ensures ∙ by (code_is m.in-Of.is m.in-Moves.is)
 
-returns_2 : tie.Need-returns-2
+returns_2 : tie.Need-returns-in_default
 returns_2 c =
-    let k = c.before.before.before in
-    c.stands-freely.ensures ∙ others_ask _ _ c.before.match2.keys2 ∙ by k.code.given.1
+    let k = c in
+    c.stands_freely.ensures ∙ others_ask _ _ c.in_default.in_default-own.keys2 ∙ by k.in-Of.is
 
-returns_3 : tie.Need-returns-3
+returns_3 : tie.Need-returns-in-Unknown
 unfolding stands_by
-returns_3 c = c.stands-freely2.ensures ∙ by c.before.enum_told.given.1
+returns_3 c = c.stands_freely-in-Unknown.ensures ∙ by c.in-Unknown.is
 
 pub stands_by_spec : {M : Type 1} → statement M
 stands_by_spec =

@@ -16,7 +16,7 @@ has_requires_3 c κs = search rules
 
 returns : tie.Need-returns
 unfolding due_after
-returns c = λ i. c.before.before.before.args.before || (c.has3.ensures i || (c.before.before.has.ensures i || c.before.has2.ensures i))
+returns c = λ i. c.args.before || (c.has-3.ensures i || (c.has.ensures i || c.has-2.ensures i))
 
 pub due_after_spec : {M : Type 1} → statement M
 due_after_spec =

@@ -9,21 +9,21 @@ use Rattle.state.proofs.feed_after.Tie as tie
 has_requires : tie.Need-has-requires
 has_requires c κs = search rules
 
-code_in_requires : tie.Need-code-in-requires
+code_in_requires : tie.Need-code_in-requires
 code_in_requires c κs = search rules
 
-returns : tie.Need-returns
+returns : tie.Need-returns-then-has
 unfolding feed_after
 returns c =
-    let h = c.before in
-    let a = h.before.before.args in
-    given a.before h.before.has.ensures h.if1.true c.Code-in.ensures
+    let h = c in
+    let a = h.args in
+    given a.before h.has.ensures h.if-has.true c.code_in.ensures
 
-returns_2 : tie.Need-returns-2
+returns_2 : tie.Need-returns
 unfolding feed_after
 returns_2 c =
-    let a = c.before.before.args in
-    stays (code_in a.b f_slot) a.before c.before.has.ensures c.if1.false
+    let a = c.args in
+    stays (code_in a.b f_slot) a.before c.has.ensures c.if-has.false
 
 pub feed_after_spec : {M : Type 1} → statement M
 feed_after_spec = tie.close (tie.spec has_requires code_in_requires returns returns_2)

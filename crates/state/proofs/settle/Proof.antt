@@ -20,29 +20,29 @@ z c = search rules
 returns : tie.Need-returns
 unfolding settled
 returns c =
-    let f = c.before.before in
-    let s5 = f.before.before in
-    let s3 = s5.before in
-    let r = s3.before in
-    let u = r.before in
-    let k = u.before in
-    let g5 = k.before in
-    let g3 = g5.before in
-    let gf = g3.before in
-    let gs = gf.before in
-    let m = gs.before in
-    let a = m.before.args.s in
+    let f = c in
+    let s5 = f in
+    let s3 = s5 in
+    let r = s3 in
+    let u = r in
+    let k = u in
+    let g5 = k in
+    let g3 = g5 in
+    let gf = g3 in
+    let gs = gf in
+    let m = gs in
+    let a = m.args.s in
     λ i. record {
-      motion = (k.keep-of.ensures ∙ ap (λ (now : Kept). keep now a.motion) m.block-motion.ensures) i;
-      g96 = (u.cutting-by.ensures ∙ ap (λ (n : Code). cutting_by n a.g96) gs.g-in.ensures) i;
-      g95 = (r.revolution-by.ensures ∙ ap (λ (n : Code). revolution_by n a.g95) gf.g-in2.ensures) i;
-      shift_group3 = (s3.shift_by_lem.ensures ∙ ap (λ (n : Code). shift_by n a.shift_group3) g3.g-in3.ensures) i;
-      shift_group5 = (s5.shift-by2.ensures ∙ ap (λ (n : Code). shift_by n a.shift_group5) g5.g-in4.ensures) i;
-      correction = f.before.correction-after.ensures i;
-      f = f.feed-after.ensures i;
-      rapid_due = c.before.due-after.ensures i;
-      x = x m.before i;
-      z = z m.before i;
+      motion = (k.keep_of.ensures ∙ ap (λ (now : Kept). keep now a.motion) m.block_motion-now.ensures) i;
+      g96 = (u.cutting_by.ensures ∙ ap (λ (n : Code). cutting_by n a.g96) gs.g_in-speed.ensures) i;
+      g95 = (r.revolution_by.ensures ∙ ap (λ (n : Code). revolution_by n a.g95) gf.g_in-feed.ensures) i;
+      shift_group3 = (s3.shift_by.ensures ∙ ap (λ (n : Code). shift_by n a.shift_group3) g3.g_in-shift3.ensures) i;
+      shift_group5 = (s5.shift_by-2.ensures ∙ ap (λ (n : Code). shift_by n a.shift_group5) g5.g_in-shift5.ensures) i;
+      correction = f.correction_after.ensures i;
+      f = f.feed_after.ensures i;
+      rapid_due = c.due_after.ensures i;
+      x = x m.before.before.before.before.before.before.before.before.before.before.before.before.before.before i;
+      z = z m.before.before.before.before.before.before.before.before.before.before.before.before.before.before i;
     }
 
 pub settle_spec : {M : Type 1} → statement M

@@ -20,42 +20,42 @@ record Held (s : State) : Type 0 where
 held : (c : tie.Start) → Held c.args.s
 held c = record { x = search rules; z = search rules }
 
-is_kept_requires : tie.Need-is-kept-requires
+is_kept_requires : tie.Need-is_kept-requires
 is_kept_requires c κs = search rules
 
-returns : tie.Need-returns
-returns c = tells_no (λ s. told_no c.before.is-kept.ensures (not-true _ c.if1.true) s.kept)
+returns : tie.Need-returns-then-not-is_kept
+returns c = tells_no (λ s. told_no c.is_kept.ensures c.if-not-is_kept.true s.kept)
 
-has_numbers_requires : tie.Need-has-numbers-requires
+has_numbers_requires : tie.Need-has_numbers-requires
 has_numbers_requires c κs = search rules
 
-returns_2 : tie.Need-returns-2
-returns_2 c = tells_no (λ s. told_no c.before.has-numbers.ensures (not-true _ c.if2.true) s.numbers)
+returns_2 : tie.Need-returns-then-not-has_numbers
+returns_2 c = tells_no (λ s. told_no c.has_numbers.ensures c.if-not-has_numbers.true s.numbers)
 
-in_table_requires : tie.Need-in-table-requires
+in_table_requires : tie.Need-in_table-requires
 in_table_requires c κs = search rules
 
-returns_3 : tie.Need-returns-3
+returns_3 : tie.Need-returns-then-not-in_table
 returns_3 c =
     let h = held c.before.before.before.before.before.before.before in
-    tells_no (λ s. never (sym (not-true _ c.if3.true) ∙ c.before.in-table.ensures ∙ ap in_table (to_z-of_z h.x) ∙ s.x))
+    tells_no (λ s. never (sym c.if-not-in_table.true ∙ c.in_table.ensures ∙ ap in_table (to_z-of_z h.x) ∙ s.x))
 
-in_table_requires_2 : tie.Need-in-table-requires-2
+in_table_requires_2 : tie.Need-in_table-requires-2
 in_table_requires_2 c κs = search rules
 
-returns_4 : tie.Need-returns-4
+returns_4 : tie.Need-returns
 returns_4 c =
-    let third = c.before.before in
-    let second = third.before.before.before in
-    let first = second.before.before in
-    let start = first.before.before in
-    let h = held start in
+    let third = c in
+    let second = third in
+    let first = second in
+    let start = first in
+    let h = held start.before.before.before.before.before.before.before.before.before in
     tells_sound
     start.args.s
-    (first.before.is-kept.ensures.0 (not-false _ first.if1.false))
-    (second.before.has-numbers.ensures.0 (not-false _ second.if2.false))
-    (sym (ap in_table (to_z-of_z h.x)) ∙ sym third.before.in-table.ensures ∙ not-false _ third.if3.false)
-    (c.in-table2.ensures ∙ ap in_table (to_z-of_z h.z))
+    (first.is_kept.ensures.0 first.if-not-is_kept.false)
+    (second.has_numbers.ensures.0 second.if-not-has_numbers.false)
+    (sym (ap in_table (to_z-of_z h.x)) ∙ sym third.in_table.ensures ∙ third.if-not-in_table.false)
+    (c.in_table-2.ensures ∙ ap in_table (to_z-of_z h.z))
 
 pub is_fit_spec : {M : Type 1} → statement M
 is_fit_spec =

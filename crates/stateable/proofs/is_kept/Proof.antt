@@ -12,18 +12,18 @@ use Rattle.stateable.proofs.is_kept.Tie as tie
 abbrev about : Kept → Type 0
 about m = keep m Nothing ≡ m
 
-returns : tie.Need-returns
-returns c = tells_of about {a = c.before.before.before.args.motion} (search rules) (tells_yes none_kept)
+returns : tie.Need-returns-in-Nothing
+returns c = tells_of about {a = c.args.motion} (search rules) (tells_yes none_kept)
 
-returns_2 : tie.Need-returns-2
+returns_2 : tie.Need-returns-in-Nothing-behind
 returns_2 c =
-    let of = c.before.before in
-    tells_no (not_kept of.enum-told2.given.1 (sym of.before.before.keep-of.ensures ∙ c.enum-told3.given.1))
+    let of = c in
+    tells_no (not_kept of.in-Of.is (sym of.keep_of-behind.ensures ∙ c.in-Nothing-behind.is))
 
-returns_3 : tie.Need-returns-3
+returns_3 : tie.Need-returns-in-Of-behind
 returns_3 c =
-    let of = c.before.before in
-    tells_yes (kept of.enum-told2.given.1 (sym of.before.before.keep-of.ensures ∙ c.enum-told4.given.1))
+    let of = c in
+    tells_yes (kept of.in-Of.is (sym of.keep_of-behind.ensures ∙ c.in-Of-behind.is))
 
 pub is_kept_spec : {M : Type 1} → statement M
 is_kept_spec =

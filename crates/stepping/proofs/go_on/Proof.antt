@@ -7,9 +7,9 @@ use borrow.Author.Rules.{rules}
 use Rattle.ahead.specs.declared.Frame.{Frame}
 use Rattle.ahead.specs.Ahead.{onto}
 use Rattle.ahead.specs.declared.Onward.{Onward}
-use Rattle.paused.specs.declared.Going.{Going}
-use Rattle.returning.specs.Moving.{moved_to, came_back, called_to, gone_on}
-use Rattle.returning.proofs.Keeping.{within_fits}
+use Rattle.skipping.specs.of_paused.declared.Going.{Going}
+use Rattle.skipping.specs.of_returning.Moving.{moved_to, came_back, called_to, gone_on}
+use Rattle.skipping.proofs.of_returning.Keeping.{within_fits}
 use Rattle.stepping.proofs.go_on.Statement.{statement}
 use Rattle.stepping.proofs.go_on.Tie as tie
 

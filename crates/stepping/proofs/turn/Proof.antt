@@ -1,9 +1,9 @@
 -- `stepping::turn` meets its contract.
 use mathlib.Core.Path.{sym, ap, subst, ◌∙◌}
 use borrow.Author.Rules.{rules}
-use Rattle.paused.specs.Kept.{Kept}
-use Rattle.paused.specs.declared.Going.{Going}
-use Rattle.returning.specs.Moving.{gone_on}
+use Rattle.skipping.specs.of_paused.Kept.{Kept}
+use Rattle.skipping.specs.of_paused.declared.Going.{Going}
+use Rattle.skipping.specs.of_returning.Moving.{gone_on}
 use Rattle.stepping.proofs.Turning.{kept_here, turn_meets, turn_nearer}
 use Rattle.stepping.proofs.turn.Statement.{statement}
 use Rattle.stepping.proofs.turn.Tie as tie

@@ -18,91 +18,91 @@ turned : (s : tie.Start) {k : Quadrant} → s.args.k ≡ k
     ≡ holds (both s.args.left s.args.down) (both s.args.right s.args.up) s.args.n s.args.k
 turned s e = ap (λ (k : Quadrant). holds (both s.args.left s.args.down) (both s.args.right s.args.up) s.args.n k) (sym e)
 
-enum_told : tie.Need-enum-told
+enum_told : tie.Need-enum_told-1
 enum_told c = search rules
 
-root_in_requires : tie.Need-root-in-requires
+root_in_requires : tie.Need-root_in-requires
 root_in_requires c κs = search rules
 
-spans_zero_requires : tie.Need-spans-zero-requires
+spans_zero_requires : tie.Need-spans_zero-requires
 spans_zero_requires c κs = search rules
 
-enum_told_2 : tie.Need-enum-told-2
+enum_told_2 : tie.Need-enum_told-in-North
 enum_told_2 c = search rules
 
-root_in_requires_2 : tie.Need-root-in-requires-2
+root_in_requires_2 : tie.Need-root_in-requires-in-North
 root_in_requires_2 c κs = search rules
 
-spans_zero_requires_2 : tie.Need-spans-zero-requires-2
+spans_zero_requires_2 : tie.Need-spans_zero-requires-in-North
 spans_zero_requires_2 c κs = search rules
 
-enum_told_3 : tie.Need-enum-told-3
+enum_told_3 : tie.Need-enum_told-in-West
 enum_told_3 c = search rules
 
 opposite_requires : tie.Need-opposite-requires
 opposite_requires c κs = search rules
 
-opposite_requires_2 : tie.Need-opposite-requires-2
+opposite_requires_2 : tie.Need-opposite-requires-in-West
 opposite_requires_2 c κs = search rules
 
-root_in_requires_3 : tie.Need-root-in-requires-3
+root_in_requires_3 : tie.Need-root_in-requires-in-West
 root_in_requires_3 c κs = search rules
 
-spans_zero_requires_3 : tie.Need-spans-zero-requires-3
+spans_zero_requires_3 : tie.Need-spans_zero-requires-in-West
 spans_zero_requires_3 c κs = search rules
 
-enum_told_4 : tie.Need-enum-told-4
+enum_told_4 : tie.Need-enum_told-in-South
 enum_told_4 c = search rules
 
-opposite_requires_3 : tie.Need-opposite-requires-3
+opposite_requires_3 : tie.Need-opposite-requires-in-South
 opposite_requires_3 c κs = search rules
 
-opposite_requires_4 : tie.Need-opposite-requires-4
+opposite_requires_4 : tie.Need-opposite-requires-in-South-2
 opposite_requires_4 c κs = search rules
 
-root_in_requires_4 : tie.Need-root-in-requires-4
+root_in_requires_4 : tie.Need-root_in-requires-in-South
 root_in_requires_4 c κs = search rules
 
-spans_zero_requires_4 : tie.Need-spans-zero-requires-4
+spans_zero_requires_4 : tie.Need-spans_zero-requires-in-South
 spans_zero_requires_4 c κs = search rules
 
-returns : tie.Need-returns
+returns : tie.Need-returns-in-East
 unfolding holds
 returns c =
-    let s = c.before.before.before.before in
-    let e : c.before.root_in.result ≡ root_in s.args.n s.args.left s.args.right = c.before.root_in.ensures ∙ search rules in
-    let f : c.spans-zero.result ≡ spans s.args.down s.args.up = c.spans-zero.ensures ∙ search rules in
-    (λ i. e i && f i) ∙ turned s c.before.before.enum_told.given.1
+    let s = c in
+    let e : c.root_in.result ≡ root_in s.args.n s.args.left s.args.right = c.root_in.ensures ∙ search rules in
+    let f : c.spans_zero.result ≡ spans s.args.down s.args.up = c.spans_zero.ensures ∙ search rules in
+    (λ i. e i && f i) ∙ turned s.before.before.before c.in-East.is
 
-returns_2 : tie.Need-returns-2
+returns_2 : tie.Need-returns-in-North
 unfolding holds
 returns_2 c =
-    let s = c.before.before.before.before in
-    let e : c.before.root-in2.result ≡ root_in s.args.n s.args.down s.args.up = c.before.root-in2.ensures ∙ search rules in
-    let f : c.spans-zero2.result ≡ spans s.args.left s.args.right = c.spans-zero2.ensures ∙ search rules in
-    (λ i. e i && f i) ∙ turned s c.before.before.enum-told2.given.1
+    let s = c in
+    let e : c.root_in-in-North.result ≡ root_in s.args.n s.args.down s.args.up = c.root_in-in-North.ensures ∙ search rules in
+    let f : c.spans_zero-in-North.result ≡ spans s.args.left s.args.right = c.spans_zero-in-North.ensures ∙ search rules in
+    (λ i. e i && f i) ∙ turned s.before.before.before c.in-North.is
 
-returns_3 : tie.Need-returns-3
+returns_3 : tie.Need-returns-in-West
 unfolding holds
 returns_3 c =
-    let s = c.before.before.before.before.before.before in
-    let d = c.before.before in
-    let o : to_z w64 (of_z w64 d.before.opposite.result) ≡ neg_ℤ s.args.right = to_z-of_z (sfits_of d.before.opposite.type-inv) ∙ (d.before.opposite.ensures.0 ∙ ap neg_ℤ (to_z-of_z s.ranges.right)) in
-    let p : to_z w64 (of_z w64 d.opposite2.result) ≡ neg_ℤ s.args.left = to_z-of_z (sfits_of d.opposite2.type-inv) ∙ (d.opposite2.ensures.0 ∙ ap neg_ℤ (to_z-of_z s.ranges.left)) in
-    let e : c.before.root-in3.result ≡ root_in s.args.n (neg_ℤ s.args.right) (neg_ℤ s.args.left) = c.before.root-in3.ensures ∙ (λ i. root_in s.args.n (o i) (p i)) in
-    let f : c.spans-zero3.result ≡ spans s.args.down s.args.up = c.spans-zero3.ensures ∙ search rules in
-    (λ i. e i && f i) ∙ turned s c.before.before.before.before.enum-told3.given.1
+    let s = c in
+    let d = c in
+    let o : to_z w64 (of_z w64 d.opposite.result) ≡ neg_ℤ s.args.right = to_z-of_z {w = w64} (sfits_of {w = w64} d.opposite.type_inv) ∙ (d.opposite.ensures.0 ∙ ap neg_ℤ (to_z-of_z s.ranges.right)) in
+    let p : to_z w64 (of_z w64 d.opposite-in-West.result) ≡ neg_ℤ s.args.left = to_z-of_z {w = w64} (sfits_of {w = w64} d.opposite-in-West.type_inv) ∙ (d.opposite-in-West.ensures.0 ∙ ap neg_ℤ (to_z-of_z s.ranges.left)) in
+    let e : c.root_in-in-West.result ≡ root_in s.args.n (neg_ℤ s.args.right) (neg_ℤ s.args.left) = c.root_in-in-West.ensures ∙ (λ i. root_in s.args.n (o i) (p i)) in
+    let f : c.spans_zero-in-West.result ≡ spans s.args.down s.args.up = c.spans_zero-in-West.ensures ∙ search rules in
+    (λ i. e i && f i) ∙ turned s.before.before.before.before.before c.in-West.is
 
-returns_4 : tie.Need-returns-4
+returns_4 : tie.Need-returns-in-South
 unfolding holds
 returns_4 c =
-    let s = c.before.before.before.before.before.before in
-    let d = c.before.before in
-    let o : to_z w64 (of_z w64 d.before.opposite3.result) ≡ neg_ℤ s.args.up = to_z-of_z (sfits_of d.before.opposite3.type-inv) ∙ (d.before.opposite3.ensures.0 ∙ ap neg_ℤ (to_z-of_z s.ranges.up)) in
-    let p : to_z w64 (of_z w64 d.opposite4.result) ≡ neg_ℤ s.args.down = to_z-of_z (sfits_of d.opposite4.type-inv) ∙ (d.opposite4.ensures.0 ∙ ap neg_ℤ (to_z-of_z s.ranges.down)) in
-    let e : c.before.root-in4.result ≡ root_in s.args.n (neg_ℤ s.args.up) (neg_ℤ s.args.down) = c.before.root-in4.ensures ∙ (λ i. root_in s.args.n (o i) (p i)) in
-    let f : c.spans-zero4.result ≡ spans s.args.left s.args.right = c.spans-zero4.ensures ∙ search rules in
-    (λ i. e i && f i) ∙ turned s c.before.before.before.before.enum-told4.given.1
+    let s = c in
+    let d = c in
+    let o : to_z w64 (of_z w64 d.opposite-in-South.result) ≡ neg_ℤ s.args.up = to_z-of_z {w = w64} (sfits_of {w = w64} d.opposite-in-South.type_inv) ∙ (d.opposite-in-South.ensures.0 ∙ ap neg_ℤ (to_z-of_z s.ranges.up)) in
+    let p : to_z w64 (of_z w64 d.opposite-in-South-2.result) ≡ neg_ℤ s.args.down = to_z-of_z {w = w64} (sfits_of {w = w64} d.opposite-in-South-2.type_inv) ∙ (d.opposite-in-South-2.ensures.0 ∙ ap neg_ℤ (to_z-of_z s.ranges.down)) in
+    let e : c.root_in-in-South.result ≡ root_in s.args.n (neg_ℤ s.args.up) (neg_ℤ s.args.down) = c.root_in-in-South.ensures ∙ (λ i. root_in s.args.n (o i) (p i)) in
+    let f : c.spans_zero-in-South.result ≡ spans s.args.left s.args.right = c.spans_zero-in-South.ensures ∙ search rules in
+    (λ i. e i && f i) ∙ turned s.before.before.before.before.before c.in-South.is
 
 pub is_held_spec : {M : Type 1} → statement M
 is_held_spec =

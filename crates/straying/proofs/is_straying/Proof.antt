@@ -15,59 +15,59 @@ use Rattle.straying.proofs.is_straying.Statement.{statement}
 use Rattle.straying.proofs.is_straying.Tie as tie
 
 -- ---- what the calls gave
-end_outside : (c : tie.After-is-outside) → let s = c.before.before.before.before.before in c.is-outside.result ≡ outside s.args.l s.args.a.end.x s.args.a.end.z
-end_outside c = c.is-outside.ensures ∙ search rules
+end_outside : (c : tie.After-is_outside) → let s = c in c.is_outside.result ≡ outside s.args.l s.args.a.end.x s.args.a.end.z
+end_outside c = c.is_outside.ensures ∙ search rules
 
-low : (c : tie.After-arrow-to) → let s = c.before.before.before.before.before.before.before.before.before.before.before in c.arrow-to.result ≡ lows s.args.l s.args.a
+low : (c : tie.After-arrow_to-low) → let s = c in c.arrow_to-low.result ≡ lows s.args.l s.args.a
 unfolding lows
-low c = c.arrow-to.ensures ∙ search rules
+low c = c.arrow_to-low.ensures ∙ search rules
 
-high : (c : tie.After-arrow-to2) → let s = c.before.before.before.before.before.before.before.before.before.before.before.before.before.before in c.arrow-to2.result ≡ highs s.args.l s.args.a
+high : (c : tie.After-arrow_to-high) → let s = c in c.arrow_to-high.result ≡ highs s.args.l s.args.a
 unfolding highs
-high c = c.arrow-to2.ensures ∙ search rules
+high c = c.arrow_to-high.ensures ∙ search rules
 
-course : (c : tie.After-course-of) → c.course-of.result ≡ course_of c.before.before.before.before.before.before.before.before.before.before.before.before.before.before.before.args.a
-course c = c.course-of.ensures
+course : (c : tie.After-course_of-c) → c.course_of-c.result ≡ course_of c.args.a
+course c = c.course_of-c.ensures
 
-start_is : (c : tie.After-course-of) → c.course-of.result.from ≡ start_of c.before.before.before.before.before.before.before.before.before.before.before.before.before.before.before.args.a
+start_is : (c : tie.After-course_of-c) → c.course_of-c.result.from ≡ start_of c.args.a
 unfolding course_of
 start_is c = ap (λ (k : Course). k.from) (course c)
 
-radius_is : (c : tie.After-square-of) → c.square-of.result ≡ radius2 c.before.before.before.before.before.before.before.before.before.before.before.before.before.before.before.before.args.a
+radius_is : (c : tie.After-square_of-n) → c.square_of-n.result ≡ radius2 c.args.a
 unfolding radius2
-radius_is c = c.square-of.ensures ∙ ap square (start_is c.before)
+radius_is c = c.square_of-n.ensures ∙ ap square (start_is c.before.before)
 
-is_outside_requires : tie.Need-is-outside-requires
+is_outside_requires : tie.Need-is_outside-requires
 is_outside_requires c κs = search rules
 
-returns : tie.Need-returns
+returns : tie.Need-returns-then-is_outside
 unfolding straying
-returns c = let e = sym (end_outside c.before) ∙ c.if1.true in simp e
+returns c = let e = sym (end_outside c.before) ∙ c.if-is_outside.true in simp e
 
-arrow_to_requires : tie.Need-arrow-to-requires
+arrow_to_requires : tie.Need-arrow_to-low-requires
 arrow_to_requires c κs = search rules
 
-arrow_to_requires_2 : tie.Need-arrow-to-requires-2
+arrow_to_requires_2 : tie.Need-arrow_to-high-requires
 arrow_to_requires_2 c κs = search rules
 
-course_of_requires : tie.Need-course-of-requires
+course_of_requires : tie.Need-course_of-c-requires
 course_of_requires c κs = search rules
 
-square_of_requires : tie.Need-square-of-requires
-square_of_requires c κs = subst Sized (sym (start_is c)) (start_sized c.before.before.before.before.before.before.before.before.before.before.before.before.before.before.before.requires.0)
+square_of_requires : tie.Need-square_of-n-requires
+square_of_requires c κs = subst Sized (sym (start_is c.before)) (start_sized c.requires.0)
 
-strays_somewhere_requires : tie.Need-strays-somewhere-requires
+strays_somewhere_requires : tie.Need-strays_somewhere-requires
 strays_somewhere_requires c κs =
-    let h = c.before.before.before.before.before.before.before.before.before.before.before.before.before.before.before.before.requires.1 in
-    (subst Sized (sym (low c.before.before.before.before.before)) (low_sized h), subst Sized (sym (high c.before.before)) (high_sized h))
+    let h = c.requires.1 in
+    (subst Sized (sym (low c.before.before.before.before.before.before)) (low_sized h), subst Sized (sym (high c.before.before.before)) (high_sized h))
 
-returns_2 : tie.Need-returns-2
+returns_2 : tie.Need-returns
 unfolding straying
 returns_2 c =
-    let s = c.before.before.before.before.before.before.before.before.before.before.before.before.before.before.before.before.before in
-    let o = c.before.before.before.before.before.before.before.before.before.before.before.before in
-    let e : outside s.args.l s.args.a.end.x s.args.a.end.z ≡ false = sym (end_outside o) ∙ c.before.before.before.before.before.before.before.before.before.before.before.if1.false in
-    c.strays-somewhere.ensures ∙ λ i. sym e i || strays_somewhere (low c.before.before.before.before.before.before i) (high c.before.before.before i) (radius_is c.before i) (course c.before.before i)
+    let s = c in
+    let o = c in
+    let e : outside s.args.l s.args.a.end.x s.args.a.end.z ≡ false = sym (end_outside o.before.before.before.before.before.before.before.before.before.before.before.before.before) ∙ c.if-is_outside.false in
+    c.strays_somewhere.ensures ∙ λ i. sym e i || strays_somewhere (low c.before.before.before.before.before.before.before i) (high c.before.before.before.before i) (radius_is c.before i) (course c.before.before.before i)
 
 pub is_straying_spec : {M : Type 1} → statement M
 is_straying_spec =

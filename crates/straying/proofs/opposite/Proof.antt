@@ -13,7 +13,7 @@ use Rattle.straying.proofs.opposite.Tie as tie
 fit : (v : ℤ) → nat_abs v ≤ greatest_part → SFits w64 (pos 0 -ℤ v)
 fit v h = let x = abs v in omega (whole, sub_in (pos 0) v)
 
-sub_result : tie.Need-overflow-sub-result
+sub_result : tie.Need-overflow_sub-result
 sub_result c = dif_need (num w64 (pos 0) tt) (held c.ranges.v) (fit c.args.v c.requires)
 
 returns : tie.Need-returns

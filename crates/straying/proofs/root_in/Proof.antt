@@ -7,16 +7,16 @@ use Rattle.arrows.specs.Arrows.{root_from, root_up_to}
 use Rattle.straying.proofs.root_in.Statement.{statement}
 use Rattle.straying.proofs.root_in.Tie as tie
 
-root_at_least_requires : tie.Need-root-at-least-requires
+root_at_least_requires : tie.Need-root_at_least-requires
 root_at_least_requires c κs = search rules
 
-root_at_most_requires : tie.Need-root-at-most-requires
+root_at_most_requires : tie.Need-root_at_most-requires
 root_at_most_requires c κs = search rules
 
 returns : tie.Need-returns
 returns c =
-    let s = c.before.before in
-    (λ i. c.before.root-at-least.ensures i && c.root-at-most.ensures i)
+    let s = c in
+    (λ i. c.root_at_least.ensures i && c.root_at_most.ensures i)
     ∙ λ i. root_from s.args.n (to_z-of_z s.ranges.low i) && root_up_to s.args.n (to_z-of_z s.ranges.high i)
 
 pub root_in_spec : {M : Type 1} → statement M

@@ -7,28 +7,28 @@ use Rattle.straying.specs.Straying.{holds, strays_at}
 use Rattle.straying.proofs.strays_at.Statement.{statement}
 use Rattle.straying.proofs.strays_at.Tie as tie
 
-held : (c : tie.After-is-held) → let s = c.before.before.before.before.before.before.before in c.is_held_lem.result ≡ holds s.args.low s.args.high s.args.n s.args.k
-held c = c.is_held_lem.ensures ∙ search rules
+held : (c : tie.After-is_held) → let s = c in c.is_held.result ≡ holds s.args.low s.args.high s.args.n s.args.k
+held c = c.is_held.ensures ∙ search rules
 
-does_cross_requires : tie.Need-does-cross-requires
+does_cross_requires : tie.Need-does_cross-requires
 does_cross_requires c κs = search rules
 
-is_held_requires : tie.Need-is-held-requires
+is_held_requires : tie.Need-is_held-requires
 is_held_requires c κs = search rules
 
-returns : tie.Need-returns
+returns : tie.Need-returns-then-does_cross
 unfolding strays_at
 returns c =
-    let d = c.before.before.before.before.before in
-    let s = d.before.before in
-    let e : crosses s.args.c s.args.k ≡ true = sym d.before.does-cross.ensures ∙ d.if1.true in
+    let d = c in
+    let s = d in
+    let e : crosses s.args.c s.args.k ≡ true = sym d.does_cross.ensures ∙ d.if-does_cross.true in
     λ i. sym e i && not (held c i)
 
-returns_2 : tie.Need-returns-2
+returns_2 : tie.Need-returns
 unfolding strays_at
 returns_2 c =
-    let s = c.before.before in
-    let e : crosses s.args.c s.args.k ≡ false = sym c.before.does-cross.ensures ∙ c.if1.false in
+    let s = c in
+    let e : crosses s.args.c s.args.k ≡ false = sym c.does_cross.ensures ∙ c.if-does_cross.false in
     simp e
 
 pub strays_at_spec : {M : Type 1} → statement M

@@ -13,47 +13,47 @@ use Rattle.arcs.proofs.Sizes.{start_sized, end_sized}
 use Rattle.sweeps.proofs.course_of.Statement.{statement}
 use Rattle.sweeps.proofs.course_of.Tie as tie
 
-from : (c : tie.After-arrow-to) → c.arrow-to.result ≡ start_of c.before.before.before.before.args.a
+from : (c : tie.After-arrow_to-from) → c.arrow_to-from.result ≡ start_of c.args.a
 unfolding start_of
-from c = c.arrow-to.ensures
+from c = c.arrow_to-from.ensures
 
-to : (c : tie.After-arrow-to2) → c.arrow-to2.result ≡ end_of c.before.before.before.before.before.args.a
+to : (c : tie.After-arrow_to-to) → c.arrow_to-to.result ≡ end_of c.args.a
 unfolding end_of
-to c = c.arrow-to2.ensures
+to c = c.arrow_to-to.ensures
 
 -- a course of its parts
 course : (a : Arc) {w : Sweep} {f t : Arrow} → w ≡ sweep_of a → f ≡ start_of a → t ≡ end_of a → record { clockwise = a.clockwise; sweep = w; from = f; to = t } ≡ course_of a
 unfolding course_of
 course a x y z = λ i. record { clockwise = a.clockwise; sweep = x i; from = y i; to = z i }
 
-arrow_to_requires : tie.Need-arrow-to-requires
+arrow_to_requires : tie.Need-arrow_to-from-requires
 arrow_to_requires c κs = search rules
 
-arrow_to_requires_2 : tie.Need-arrow-to-requires-2
+arrow_to_requires_2 : tie.Need-arrow_to-to-requires
 arrow_to_requires_2 c κs = search rules
 
-is_full_requires : tie.Need-is-full-requires
+is_full_requires : tie.Need-is_full-requires
 is_full_requires c κs = search rules
 
-returns : tie.Need-returns
+returns : tie.Need-returns-then-is_full
 unfolding sweep_of
 returns c =
-    let a = c.before.before.before.before.before.before.before.args.a in
-    course a (picked Full (sweep a.clockwise (start_of a) (end_of a)) (sym c.before.is-full.ensures ∙ c.if1.true) refl) (from c.before.before.before) (to c.before.before)
+    let a = c.args.a in
+    course a (picked Full (sweep a.clockwise (start_of a) (end_of a)) (sym c.is_full.ensures ∙ c.if-is_full.true) refl) (from c.before.before.before) (to c.before.before)
 
-sweep_between_requires : tie.Need-sweep-between-requires
+sweep_between_requires : tie.Need-sweep_between-sweep-requires
 sweep_between_requires c κs =
-    let h = c.before.before.before.before.before.before.before.requires in
+    let h = c.requires in
     (subst Sized (sym (from c.before.before.before)) (start_sized h), subst Sized (sym (to c.before.before)) (end_sized h))
 
-returns_2 : tie.Need-returns-2
+returns_2 : tie.Need-returns
 unfolding sweep_of
 returns_2 c =
-    let a = c.before.before.before.before.before.before.before.before.args.a in
+    let a = c.args.a in
     let f = from c.before.before.before.before in
     let t = to c.before.before.before in
     course a
-    (picked Full (sweep a.clockwise (start_of a) (end_of a)) (sym c.before.before.is-full.ensures ∙ c.before.if1.false) (c.sweep-between.ensures ∙ λ i. sweep a.clockwise (f i) (t i)))
+    (picked Full (sweep a.clockwise (start_of a) (end_of a)) (sym c.is_full.ensures ∙ c.if-is_full.false) (c.sweep_between-sweep.ensures ∙ λ i. sweep a.clockwise (f i) (t i)))
     f t
 
 pub course_of_spec : {M : Type 1} → statement M

@@ -14,11 +14,11 @@ distance_requires c κs = search rules
 distance_requires_2 : tie.Need-distance-requires-2
 distance_requires_2 c κs = search rules
 
-for_x : (c : tie.After-distance) → c.distance.result ≡ nat_abs (c.before.before.before.before.before.args.a.end.x -ℤ c.before.before.before.before.before.args.a.start.x)
+for_x : (c : tie.After-distance) → c.distance.result ≡ nat_abs (c.args.a.end.x -ℤ c.args.a.start.x)
 for_x c = c.distance.ensures ∙ search rules
 
-for_z : (c : tie.After-distance2) → c.distance2.result ≡ nat_abs (c.before.before.before.before.before.before.before.before.args.a.end.z -ℤ c.before.before.before.before.before.before.before.before.args.a.start.z)
-for_z c = c.distance2.ensures ∙ search rules
+for_z : (c : tie.After-distance-2) → c.distance-2.result ≡ nat_abs (c.args.a.end.z -ℤ c.args.a.start.z)
+for_z c = c.distance-2.ensures ∙ search rules
 
 returns : tie.Need-returns
 unfolding is_full

@@ -17,29 +17,29 @@ use Rattle.sweeps.proofs.lies_left.Tie as tie
 turned : (s : tie.Start) {k : Quadrant} → s.args.k ≡ k → lt_z (pos 0) (cross (both s.args.right s.args.up) (unit k)) ≡ lt_z (pos 0) (cross (both s.args.right s.args.up) (unit s.args.k))
 turned s e = ap (λ (k : Quadrant). lt_z (pos 0) (cross (both s.args.right s.args.up) (unit k))) (sym e)
 
-enum_told : tie.Need-enum-told
+enum_told : tie.Need-enum_told-1
 enum_told c = search rules
 
-enum_told_2 : tie.Need-enum-told-2
+enum_told_2 : tie.Need-enum_told-in-North
 enum_told_2 c = search rules
 
-enum_told_3 : tie.Need-enum-told-3
+enum_told_3 : tie.Need-enum_told-in-West
 enum_told_3 c = search rules
 
-enum_told_4 : tie.Need-enum-told-4
+enum_told_4 : tie.Need-enum_told-in-South
 enum_told_4 c = search rules
 
-returns : tie.Need-returns
-returns c = let s = c.before.before in (λ i. lt_z (to_z-of_z s.ranges.up i) (pos 0)) ∙ (left_is s.args.right s.args.up East ∙ turned s c.enum_told.given.1)
+returns : tie.Need-returns-in-East
+returns c = let s = c in (λ i. lt_z (to_z-of_z s.ranges.up i) (pos 0)) ∙ (left_is s.args.right s.args.up East ∙ turned s.before c.in-East.is)
 
-returns_2 : tie.Need-returns-2
-returns_2 c = let s = c.before.before in (λ i. lt_z (pos 0) (to_z-of_z s.ranges.right i)) ∙ (left_is s.args.right s.args.up North ∙ turned s c.enum-told2.given.1)
+returns_2 : tie.Need-returns-in-North
+returns_2 c = let s = c in (λ i. lt_z (pos 0) (to_z-of_z s.ranges.right i)) ∙ (left_is s.args.right s.args.up North ∙ turned s.before c.in-North.is)
 
-returns_3 : tie.Need-returns-3
-returns_3 c = let s = c.before.before in (λ i. lt_z (pos 0) (to_z-of_z s.ranges.up i)) ∙ (left_is s.args.right s.args.up West ∙ turned s c.enum-told3.given.1)
+returns_3 : tie.Need-returns-in-West
+returns_3 c = let s = c in (λ i. lt_z (pos 0) (to_z-of_z s.ranges.up i)) ∙ (left_is s.args.right s.args.up West ∙ turned s.before c.in-West.is)
 
-returns_4 : tie.Need-returns-4
-returns_4 c = let s = c.before.before in (λ i. lt_z (to_z-of_z s.ranges.right i) (pos 0)) ∙ (left_is s.args.right s.args.up South ∙ turned s c.enum-told4.given.1)
+returns_4 : tie.Need-returns-in-South
+returns_4 c = let s = c in (λ i. lt_z (to_z-of_z s.ranges.right i) (pos 0)) ∙ (left_is s.args.right s.args.up South ∙ turned s.before c.in-South.is)
 
 pub lies_left_spec : {M : Type 1} → statement M
 lies_left_spec =

@@ -10,25 +10,25 @@ use Rattle.arrows.specs.Known.{both}
 use Rattle.sweeps.proofs.lies_past.Statement.{statement}
 use Rattle.sweeps.proofs.lies_past.Tie as tie
 
-lies_right_requires : tie.Need-lies-right-requires
+lies_right_requires : tie.Need-lies_right-requires
 lies_right_requires c κs = search rules
 
-returns : tie.Need-returns
+returns : tie.Need-returns-then-clockwise
 unfolding ahead
 returns c =
-    let s = c.before.before in
-    let e : c.lies-right.result ≡ lt_z (pos 0) (cross (unit s.args.k) (both s.args.right s.args.up)) = c.lies-right.ensures ∙ search rules in
-    e ∙ ap (lt_z (pos 0)) (picked (cross (unit s.args.k) (both s.args.right s.args.up)) (cross (both s.args.right s.args.up) (unit s.args.k)) c.before.if1.true refl)
+    let s = c in
+    let e : c.lies_right.result ≡ lt_z (pos 0) (cross (unit s.args.k) (both s.args.right s.args.up)) = c.lies_right.ensures ∙ search rules in
+    e ∙ ap (lt_z (pos 0)) (picked (cross (unit s.args.k) (both s.args.right s.args.up)) (cross (both s.args.right s.args.up) (unit s.args.k)) c.if-clockwise.true refl)
 
-lies_left_requires : tie.Need-lies-left-requires
+lies_left_requires : tie.Need-lies_left-requires
 lies_left_requires c κs = search rules
 
-returns_2 : tie.Need-returns-2
+returns_2 : tie.Need-returns
 unfolding ahead
 returns_2 c =
-    let s = c.before.before in
-    let e : c.lies-left.result ≡ lt_z (pos 0) (cross (both s.args.right s.args.up) (unit s.args.k)) = c.lies-left.ensures ∙ search rules in
-    e ∙ ap (lt_z (pos 0)) (picked (cross (unit s.args.k) (both s.args.right s.args.up)) (cross (both s.args.right s.args.up) (unit s.args.k)) c.before.if1.false refl)
+    let s = c in
+    let e : c.lies_left.result ≡ lt_z (pos 0) (cross (both s.args.right s.args.up) (unit s.args.k)) = c.lies_left.ensures ∙ search rules in
+    e ∙ ap (lt_z (pos 0)) (picked (cross (unit s.args.k) (both s.args.right s.args.up)) (cross (both s.args.right s.args.up) (unit s.args.k)) c.if-clockwise.false refl)
 
 pub lies_past_spec : {M : Type 1} → statement M
 lies_past_spec = tie.close (tie.spec lies_right_requires returns lies_left_requires returns_2)

@@ -11,10 +11,10 @@ use Rattle.targets.proofs.Sending.{PairIn, pair_in, correction_le, two_need, thr
 use Rattle.targets.proofs.offset_of.Statement.{statement}
 use Rattle.targets.proofs.offset_of.Tie as tie
 
-pair_of_requires_3 : tie.Need-pair-of-requires-3
+pair_of_requires_3 : tie.Need-pair_of-tool-requires
 pair_of_requires_3 c κs =
-    let s = c.before.before.before.before.before in
-    (s.requires.0, subst (λ (n : ℕ). n ≤ 104) (sym c.correction-pair.ensures) (correction_le s.args.s.correction s.requires.1.correction))
+    let s = c in
+    (s.requires.0, subst (λ (n : ℕ). n ≤ 104) (sym c.correction_pair.ensures) (correction_le s.args.s.correction s.requires.1.correction))
 
 -- the three pairs, and that they are numbers of the table
 record Three (table : List ℤ) (s : State) (a b t : Pair) : Type 0 where
@@ -25,14 +25,14 @@ record Three (table : List ℤ) (s : State) (a b t : Pair) : Type 0 where
   second_in : PairIn b
   tool_in : PairIn t
 
-three : (c : tie.After-pair-of3) → Three c.before.before.before.before.before.before.args.table.now c.before.before.before.before.before.before.args.s
-    c.before.before.before.before.pair_of.result c.before.before.pair-of2.result c.pair-of3.result
+three : (c : tie.After-pair_of-tool) → Three c.args.table.now c.args.s
+    c.pair_of-first.result c.pair_of-second.result c.pair_of-tool.result
 three c =
-    let s = c.before.before.before.before.before.before in
+    let s = c in
     let table = s.args.table.now in
-    let f = c.before.before.before.before.pair_of.ensures ∙ ap (pair_of table) c.before.before.before.before.before.wide.ensures in
-    let g = c.before.before.pair-of2.ensures ∙ ap (pair_of table) c.before.before.before.wide2.ensures in
-    let h = c.pair-of3.ensures ∙ ap (pair_of table) c.before.correction-pair.ensures in
+    let f = c.pair_of-first.ensures ∙ ap (pair_of table) c.wide.ensures in
+    let g = c.pair_of-second.ensures ∙ ap (pair_of table) c.wide-2.ensures in
+    let h = c.pair_of-tool.ensures ∙ ap (pair_of table) c.correction_pair.ensures in
     record {
       first = f;
       second = g;
@@ -42,16 +42,16 @@ three c =
       tool_in = subst PairIn (sym h) (pair_in table s.requires.0 (correction_pair s.args.s.correction));
     }
 
-add_x : tie.Need-overflow-add-x
+add_x : tie.Need-overflow_add-x
 add_x c = let n = three c.before.before.before.before in two_need _ _ n.first_in.x n.second_in.x
 
-add_x_2 : tie.Need-overflow-add-x-2
+add_x_2 : tie.Need-overflow_add-x-2
 add_x_2 c = let n = three c.before.before.before.before.before.before in three_need _ _ n.first_in.x n.second_in.x _ n.tool_in.x
 
-add_z : tie.Need-overflow-add-z
+add_z : tie.Need-overflow_add-z
 add_z c = let n = three c.before.before.before.before.before.before.before.before.before.before in two_need _ _ n.first_in.z n.second_in.z
 
-add_z_2 : tie.Need-overflow-add-z-2
+add_z_2 : tie.Need-overflow_add-z-2
 add_z_2 c =
     let n = three c.before.before.before.before.before.before.before.before.before.before.before.before in
     three_need _ _ n.first_in.z n.second_in.z _ n.tool_in.z

@@ -12,39 +12,39 @@ use Rattle.targets.proofs.Sending.{going_z, by_word, by_single, by_none}
 use Rattle.targets.proofs.target_z.Statement.{statement}
 use Rattle.targets.proofs.target_z.Tie as tie
 
-returns : tie.Need-returns
+returns : tie.Need-returns-then-has
 unfolding target_z
 returns c =
-    let h = c.before.before.before.before in
-    let s = h.before.before in
+    let h = c in
+    let s = h in
     let a = s.args in
-    to_z-of_z (sfits_of {w = w32} c.place-or.type-inv)
-    ∙ c.place-or.ensures
-    ∙ ap (λ (p : Placed). place_or p (to_z w32 (of_z w32 a.s.z))) c.before.from-z-word.ensures
-    ∙ by_word a.t2 z_slot a.s.z a.offset (going_z a.s a.t2 a.offset s.requires) (word_in a.t2 w_slot) (sym h.has.ensures ∙ c.before.before.before.if1.true)
+    to_z-of_z (sfits_of {w = w32} c.place_or.type_inv)
+    ∙ c.place_or.ensures
+    ∙ ap (λ (p : Placed). place_or p (to_z w32 (of_z w32 a.s.z))) c.from_z_word.ensures
+    ∙ by_word a.b z_slot a.s.z a.offset (going_z a.s a.b a.offset s.requires) (word_in a.b w_slot) (sym h.has.ensures ∙ c.if-has.true)
 
-returns_2 : tie.Need-returns-2
+returns_2 : tie.Need-returns-then-has-2
 unfolding target_z
 returns_2 c =
-    let t = c.before.before.before.before in
-    let h = t.before.before in
-    let s = h.before.before in
+    let t = c in
+    let h = t in
+    let s = h in
     let a = s.args in
-    to_z-of_z (sfits_of {w = w32} c.place-or2.type-inv)
-    ∙ c.place-or2.ensures
-    ∙ ap (λ (p : Placed). place_or p (to_z w32 (of_z w32 a.s.z))) c.before.moved-by-w.ensures
-    ∙ by_single a.t2 z_slot a.s.z a.offset (going_z a.s a.t2 a.offset s.requires) (sym h.has.ensures ∙ t.before.if1.false)
-    (sym t.has2.ensures ∙ c.before.before.before.if2.true)
+    to_z-of_z (sfits_of {w = w32} c.place_or-then-has-2.type_inv)
+    ∙ c.place_or-then-has-2.ensures
+    ∙ ap (λ (p : Placed). place_or p (to_z w32 (of_z w32 a.s.z))) c.moved_by_w.ensures
+    ∙ by_single a.b z_slot a.s.z a.offset (going_z a.s a.b a.offset s.requires) (sym h.has.ensures ∙ t.if-has.false)
+    (sym t.has-2.ensures ∙ c.if-has-2.true)
 
-returns_3 : tie.Need-returns-3
+returns_3 : tie.Need-returns
 unfolding target_z
 returns_3 c =
-    let t = c.before in
-    let h = t.before.before in
-    let s = h.before.before in
+    let t = c in
+    let h = t in
+    let s = h in
     let a = s.args in
-    by_none a.t2 z_slot a.s.z a.offset (going_z a.s a.t2 a.offset s.requires) (word_in a.t2 w_slot) (sym h.has.ensures ∙ t.before.if1.false)
-    (sym t.has2.ensures ∙ c.if2.false)
+    by_none a.b z_slot a.s.z a.offset (going_z a.s a.b a.offset s.requires) (word_in a.b w_slot) (sym h.has.ensures ∙ t.if-has.false)
+    (sym t.has-2.ensures ∙ c.if-has-2.false)
 
 pub target_z_spec : {M : Type 1} → statement M
 target_z_spec =

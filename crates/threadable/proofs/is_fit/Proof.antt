@@ -56,47 +56,47 @@ refused : {c : Cursor} → (Sound c → ⊥) → Answers (Sound c) false
 refused h = (λ y. absurd (false≢true y), λ s. absurd (h s))
 
 -- ---- what the tests passed tell
-sums_fit : (c : tie.Else1) → let k = c.before.before.before.args.c in cut.Sound k.depth k.cuts
-sums_fit c = c.before.sum_fits.ensures.0 (yes c.if1.false)
+sums_fit : (c : tie.Else-not-sum_fits) → let k = c.args.c in cut.Sound k.depth k.cuts
+sums_fit c = c.sum_fits.ensures.0 (yes (ap not c.if-not-sum_fits.false))
 
-rises : (c : tie.Else2) → let k = c.before.before.before.before.before.args.c in Rising k.depth k.cuts
-rises c = c.before.is-rising.ensures.0 (yes c.if2.false)
+rises : (c : tie.Else-not-is_rising) → let k = c.args.c in Rising k.depth k.cuts
+rises c = c.is_rising.ensures.0 (yes (ap not c.if-not-is_rising.false))
 
-deep_enough : (c : tie.After-deepest-of) → c.before.before.before.before.before.before.args.c.depth ≤ c.deepest-of.result
+deep_enough : (c : tie.After-deepest_of-deepest) → c.args.c.depth ≤ c.deepest_of-deepest.result
 deep_enough c =
-    let e = c.before in
-    let k = e.before.before.before.before.before.args.c in
-    omega (arith, c.deepest-of.ensures, starts (deepest k.depth k.cuts) k.depth (cuts_left k) (rises e))
+    let e = c in
+    let k = e.args.c in
+    omega (arith, c.deepest_of-deepest.ensures, starts (deepest k.depth k.cuts) k.depth (cuts_left k) (rises e.before))
 
-returns : tie.Need-returns
-returns c = refused (λ s. no c.if1.true c.before.sum_fits.ensures s.cuts)
+returns : tie.Need-returns-then-not-sum_fits
+returns c = refused (λ s. no (ap not c.if-not-sum_fits.true) c.sum_fits.ensures s.cuts)
 
-returns_2 : tie.Need-returns-2
-returns_2 c = let k = c.before.before.before.before.before.args.c in refused (λ s. no c.if2.true c.before.is-rising.ensures (rising k s))
+returns_2 : tie.Need-returns-then-not-is_rising
+returns_2 c = let k = c.args.c in refused (λ s. no (ap not c.if-not-is_rising.true) c.is_rising.ensures (rising k s))
 
-returns_3 : tie.Need-returns-3
+returns_3 : tie.Need-returns-then-deepest-gt-GREATEST_D
 returns_3 c =
-    let d = c.before in
-    let k = d.before.before.before.before.before.before.args.c in
-    refused (λ s. omega (arith, c.if3.true, d.deepest-of.ensures, deepest_is k s, s.small))
+    let d = c in
+    let k = d.args.c in
+    refused (λ s. omega (arith, c.if-deepest-gt-GREATEST_D.true, d.deepest_of-deepest.ensures, deepest_is k s, s.small))
 
-cast_by : tie.Need-overflow-cast-by
+cast_by : tie.Need-overflow_cast-by
 cast_by c =
-    let l = c.before.before in
-    let d = l.before in
-    let k = d.before.before.before.before.before.before.args.c in
-    omega (arith, l.if3.false, c.wide_of.ensures, wide_small k.pass.facing (d.deepest-of.result - k.depth))
+    let l = c in
+    let d = l in
+    let k = d.args.c in
+    omega (arith, l.if-deepest-gt-GREATEST_D.false, c.wide_of-by.ensures, wide_small k.pass.facing (d.deepest_of-deepest.result - k.depth))
 
-returns_4 : tie.Need-returns-4
+returns_4 : tie.Need-returns
 returns_4 c =
-    let w = c.before.before in
-    let l = w.before.before in
-    let d = l.before in
-    let e = d.before in
-    let s = e.before.before.before.before.before in
+    let w = c in
+    let l = w in
+    let d = l in
+    let e = d in
+    let s = e in
     let k = s.args.c in
-    reach_asked k d.deepest-of.ensures l.if3.false (sums_fit e.before.before) (rises e)
-    (subst (λ (z : ℤ). Answers (SFits w32 z) c.ends-within.result) (λ i. to_z-of_z (line_held s) i +ℤ along k.side (w.wide_of.ensures i)) c.ends-within.ensures)
+    reach_asked k d.deepest_of-deepest.ensures l.if-deepest-gt-GREATEST_D.false (sums_fit e.before.before.before.before.before.before.before.before) (rises e.before.before.before.before.before.before)
+    (subst (λ (z : ℤ). Answers (SFits w32 z) c.ends_within.result) (λ i. to_z-of_z (line_held s.before.before.before.before.before.before.before.before.before.before.before) i +ℤ along k.side (w.wide_of-by.ensures i)) c.ends_within.ensures)
 
 pub is_fit_spec : {M : Type 1} → statement M
 is_fit_spec =

@@ -24,26 +24,26 @@ side_is s = λ i. side_of (to_z-of_z (stands s).target i -ℤ to_z-of_z (stands 
 step_requires : tie.Need-step-requires
 unfolding bottom
 step_requires c κs =
-    let s = c.before.before.before.before.before.before in
+    let s = c in
     let t = s.args.t in
-    subst (SFits w32) (sym ((λ i. to_z-of_z (stands s).target i +ℤ along ((c.before.side-of.ensures ∙ side_is s) i) (c.depth-of.ensures i))
-    ∙ picked (t.infeed.target +ℤ along (side t.infeed) (whole_depth t)) t.infeed.target c.before.before.if1.true refl)) s.requires.bottom
+    subst (SFits w32) (sym ((λ i. to_z-of_z (stands s.before.before.before.before.before.before).target i +ℤ along ((c.side_of-side.ensures ∙ side_is s.before.before.before.before.before.before) i) (c.depth_of-deep.ensures i))
+    ∙ picked (t.infeed.target +ℤ along (side t.infeed) (whole_depth t)) t.infeed.target c.if-t.true refl)) s.requires.bottom
 
-returns : tie.Need-returns
+returns : tie.Need-returns-then-t
 unfolding bottom
 returns c =
-    let w = c.before in
-    let s = w.before.before.before.before.before.before in
+    let w = c in
+    let s = w in
     let t = s.args.t in
-    picked (t.infeed.target +ℤ along (side t.infeed) (whole_depth t)) t.infeed.target w.before.before.if1.true
-    (to_z-of_z (sfits_of {w = w32} c.step.type-inv) ∙ c.step.ensures ∙ λ i. to_z-of_z (stands s).target i +ℤ along ((w.before.side-of.ensures ∙ side_is s) i) (w.depth-of.ensures i))
+    picked (t.infeed.target +ℤ along (side t.infeed) (whole_depth t)) t.infeed.target w.if-t.true
+    (to_z-of_z (sfits_of {w = w32} c.step.type_inv) ∙ c.step.ensures ∙ λ i. to_z-of_z (stands s.before.before.before.before.before.before.before).target i +ℤ along ((w.side_of-side.ensures ∙ side_is s.before.before.before.before.before.before.before) i) (w.depth_of-deep.ensures i))
 
-returns_2 : tie.Need-returns-2
+returns_2 : tie.Need-returns
 unfolding bottom
 returns_2 c =
-    let s = c.before.before.before.before in
+    let s = c in
     let t = s.args.t in
-    picked (t.infeed.target +ℤ along (side t.infeed) (whole_depth t)) t.infeed.target c.if1.false (to_z-of_z (stands s).target)
+    picked (t.infeed.target +ℤ along (side t.infeed) (whole_depth t)) t.infeed.target c.if-t.false (to_z-of_z (stands s.before.before.before.before).target)
 
 pub bottom_of_spec : {M : Type 1} → statement M
 bottom_of_spec =

@@ -9,9 +9,9 @@ use Rattle.threading.proofs.crest_beyond.Tie as tie
 returns : tie.Need-returns
 unfolding crest_beyond
 returns c =
-    let w = c.before in
-    let d = w.before in
-    λ i. not d.before.before.args.t.nominal && ltb (d.distance-of.ensures i) (w.wide_of.ensures i)
+    let w = c in
+    let d = w in
+    λ i. not d.args.t.nominal && ltb (d.distance_of-way.ensures i) (w.wide_of-deep.ensures i)
 
 pub crest_beyond_spec : {M : Type 1} → statement M
 crest_beyond_spec = tie.close (tie.spec (λ c κs. search rules) (λ c. search rules) (λ c κs. search rules) returns)

@@ -28,7 +28,7 @@ stands s = record { start = search rules; target = search rules }
 side_is : (s : tie.Start) → side_of (to_z w32 (of_z w32 s.args.t.infeed.target) -ℤ to_z w32 (of_z w32 s.args.t.infeed.start)) ≡ side s.args.t.infeed
 side_is s = λ i. side_of (to_z-of_z (stands s).target i -ℤ to_z-of_z (stands s).start i)
 
-start_of : tie.After-depth-of → tie.Start
+start_of : tie.After-depth_of-deep → tie.Start
 start_of c = c.before.before.before.before.before.before.before
 
 -- a target that is the bottom lies no nearer than the depth
@@ -38,19 +38,19 @@ room s e =
     let t = s.args.t in
     ltb-false (distance t.infeed) (whole_depth t) (ap (λ (b : Bool). not b && ltb (distance t.infeed) (whole_depth t)) (sym e) ∙ (right t s.requires.1).crest)
 
-returns : tie.Need-returns
+returns : tie.Need-returns-then-t
 unfolding crest
 returns c =
-    let s = c.before.before.before.before in
+    let s = c in
     let t = s.args.t in
-    picked t.infeed.target (t.infeed.target -ℤ along (side t.infeed) (whole_depth t)) c.if1.true (to_z-of_z (stands s).target)
+    picked t.infeed.target (t.infeed.target -ℤ along (side t.infeed) (whole_depth t)) c.if-t.true (to_z-of_z (stands s.before.before.before.before).target)
 
-sub_step : tie.Need-overflow-sub-step
+sub_step : tie.Need-overflow_sub-way
 unfolding start_of
 sub_step c =
-    let d = c.before in
-    let h = room (start_of c) d.before.before.if1.false in
-    omega (arith, h, c.depth-of.ensures, d.distance-of.ensures)
+    let d = c in
+    let h = room (start_of c) d.if-t.false in
+    omega (arith, h, c.depth_of-deep.ensures, d.distance_of-way.ensures)
 
 step_requires : tie.Need-step-requires
 unfolding start_of
@@ -58,20 +58,20 @@ step_requires c κs =
     let s = start_of c in
     let t = s.args.t in
     let h = stands s in
-    subst (SFits w32) (sym (λ i. to_z-of_z h.start i +ℤ along ((c.before.before.side-of.ensures ∙ side_is s) i) (c.before.distance-of.ensures i - c.depth-of.ensures i)))
+    subst (SFits w32) (sym (λ i. to_z-of_z h.start i +ℤ along ((c.side_of-side.ensures ∙ side_is s) i) (c.distance_of-way.ensures i - c.depth_of-deep.ensures i)))
     (toward h.start h.target (distance t.infeed - whole_depth t) (omega arith))
 
-returns_2 : tie.Need-returns-2
+returns_2 : tie.Need-returns
 unfolding crest start_of
 returns_2 c =
-    let w = c.before in
-    let s = start_of w in
+    let w = c in
+    let s = start_of w.before in
     let t = s.args.t in
     let h = stands s in
-    picked t.infeed.target (t.infeed.target -ℤ along (side t.infeed) (whole_depth t)) w.before.before.before.if1.false
-    (to_z-of_z (sfits_of {w = w32} c.step.type-inv) ∙ c.step.ensures
-    ∙ (λ i. to_z-of_z h.start i +ℤ along ((w.before.before.side-of.ensures ∙ side_is s) i) (w.before.distance-of.ensures i - w.depth-of.ensures i))
-    ∙ line_net (record { start = t.infeed.start; target = t.infeed.target; allowance = whole_depth t }) (room s w.before.before.before.if1.false))
+    picked t.infeed.target (t.infeed.target -ℤ along (side t.infeed) (whole_depth t)) w.if-t.false
+    (to_z-of_z (sfits_of {w = w32} c.step.type_inv) ∙ c.step.ensures
+    ∙ (λ i. to_z-of_z h.start i +ℤ along ((w.side_of-side.ensures ∙ side_is s) i) (w.distance_of-way.ensures i - w.depth_of-deep.ensures i))
+    ∙ line_net (record { start = t.infeed.start; target = t.infeed.target; allowance = whole_depth t }) (room s w.if-t.false))
 
 pub crest_of_spec : {M : Type 1} → statement M
 crest_of_spec =

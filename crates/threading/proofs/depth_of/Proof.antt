@@ -9,5 +9,5 @@ depth_of_spec =
     tie.close
     (tie.spec
     (λ c κs. search rules)
-    (λ c. let s = c.before in let h = wide_small s.args.t.facing s.args.t.d6 in search rules)
+    (λ c. let s = c in let h = wide_small s.args.t.facing s.args.t.d6 in search rules)
     (λ c. search rules))

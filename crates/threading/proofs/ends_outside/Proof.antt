@@ -20,14 +20,14 @@ path_stands s = record { start = search rules; target = search rules }
 
 returns : tie.Need-returns
 returns c =
-    let b = c.before.before in
-    let a = b.before in
-    let s = a.before.before.before.before.before in
+    let b = c in
+    let a = b in
+    let s = a in
     let t = s.args.t in
     let l = s.args.l in
-    let p = path_stands s in
-    (λ i. (a.is-outside-to.ensures ∙ (λ j. outside_to l t.facing (to_z-of_z (infeed_stands s).start j) (to_z-of_z p.start j))) i
-    || (c.is-outside-to2.ensures ∙ (λ j. outside_to l t.facing ((to_z-of_z (sfits_of {w = w32} b.bottom-of.type-inv) ∙ b.bottom-of.ensures) j) (to_z-of_z p.target j))) i)
+    let p = path_stands s.before.before.before.before.before.before.before.before in
+    (λ i. (a.is_outside_to-at_start.ensures ∙ (λ j. outside_to l t.facing (to_z-of_z (infeed_stands s.before.before.before.before.before.before.before.before).start j) (to_z-of_z p.start j))) i
+    || (c.is_outside_to.ensures ∙ (λ j. outside_to l t.facing ((to_z-of_z (sfits_of {w = w32} b.bottom_of-deepest.type_inv) ∙ b.bottom_of-deepest.ensures) j) (to_z-of_z p.target j))) i)
     ∙ sym (reach l t s.requires.1)
 
 pub ends_outside_spec : {M : Type 1} → statement M

@@ -11,8 +11,8 @@ use Rattle.threading.proofs.record_count.Tie as tie
 returns : tie.Need-returns
 unfolding record_count
 returns c =
-    let s = c.before.before in
-    ap (λ (n : ℕ). 4 * (n + s.args.t.empty)) c.before.cut-count.ensures ∙ sym (threading_length s.args.t s.requires.1)
+    let s = c in
+    ap (λ (n : ℕ). 4 * (n + s.args.t.empty)) c.cut_count-n.ensures ∙ sym (threading_length s.args.t s.requires.1)
 
 pub record_count_spec : {M : Type 1} → statement M
 record_count_spec =

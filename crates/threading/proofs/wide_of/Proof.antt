@@ -8,13 +8,13 @@ use Rattle.threading.specs.Threading.{wide}
 use Rattle.threading.proofs.wide_of.Statement.{statement}
 use Rattle.threading.proofs.wide_of.Tie as tie
 
-returns : tie.Need-returns
+returns : tie.Need-returns-then-facing
 unfolding wide
-returns c = let s = c.before in picked s.args.n (2 * s.args.n) c.if1.true refl
+returns c = let s = c in picked s.args.n (2 * s.args.n) c.if-facing.true refl
 
-returns_2 : tie.Need-returns-2
+returns_2 : tie.Need-returns
 unfolding wide
-returns_2 c = let s = c.before in picked s.args.n (2 * s.args.n) c.if1.false (omega arith)
+returns_2 c = let s = c in picked s.args.n (2 * s.args.n) c.if-facing.false (omega arith)
 
 pub wide_of_spec : {M : Type 1} → statement M
 wide_of_spec = tie.close (tie.spec returns (λ c. search rules) returns_2)

@@ -20,37 +20,37 @@ line_held s = search rules
 home_held : (s : tie.Start) → SFits w32 s.args.c.pass.home
 home_held s = search rules
 
-sub_wide_of : tie.Need-overflow-sub-wide-of
-sub_wide_of c = let n = c.before in let s = n.before.before in not_above s.args.c s.requires.0 n.next.ensures
+sub_wide_of : tie.Need-overflow_sub-depth
+sub_wide_of c = let n = c in let s = n in not_above s.args.c s.requires.0 n.next-handed.ensures
 
-cast_by : tie.Need-overflow-cast-by
+cast_by : tie.Need-overflow_cast-by
 cast_by c =
-    let n = c.before.before in
-    let s = n.before.before in
+    let n = c in
+    let s = n in
     let k = s.args.c in
-    let h = small_cut k s.requires.0 n.next.ensures in
-    let w = wide_small k.pass.facing (n.next.result.depth - k.depth) in
+    let h = small_cut k s.requires.0 n.next-handed.ensures in
+    let w = wide_small k.pass.facing (n.next-handed.result.depth - k.depth) in
     search rules
 
-step_requires : tie.Need-step-requires
+step_requires : tie.Need-step-line-requires
 step_requires c κs =
-    let w = c.before in
-    let n = w.before.before in
-    let s = n.before.before in
+    let w = c in
+    let n = w in
+    let s = n in
     let k = s.args.c in
-    let f = line_held s in
-    subst (SFits w32) (sym (λ i. to_z-of_z f i +ℤ along k.side (w.wide_of.ensures i))) (line_next_fits k s.requires.0 n.next.ensures f)
+    let f = line_held s.before.before.before.before.before in
+    subst (SFits w32) (sym (λ i. to_z-of_z f i +ℤ along k.side (w.wide_of-by.ensures i))) (line_next_fits k s.requires.0 n.next-handed.ensures f)
 
 returns : tie.Need-returns
 returns c =
-    let t = c.before.before in
-    let w = t.before.before in
-    let n = w.before.before in
-    let s = n.before.before in
+    let t = c in
+    let w = t in
+    let n = w in
+    let s = n in
     let k = s.args.c in
-    let line = to_z-of_z (sfits_of {w = w32} t.step.type-inv) ∙ t.step.ensures ∙ (λ i. to_z-of_z (line_held s) i +ℤ along k.side (w.wide_of.ensures i)) in
-    goes_deeper k s.requires.0 n.next.ensures s.requires.1 line
-    (c.rapid-to.ensures ∙ ap (rapid_to k.pass.facing _) (to_z-of_z (home_held s)))
+    let line = to_z-of_z (sfits_of {w = w32} t.step-line.type_inv) ∙ t.step-line.ensures ∙ (λ i. to_z-of_z (line_held s.before.before.before.before.before.before.before.before) i +ℤ along k.side (w.wide_of-by.ensures i)) in
+    goes_deeper k s.requires.0 n.next-handed.ensures s.requires.1 line
+    (c.rapid_to-record.ensures ∙ ap (rapid_to k.pass.facing _) (to_z-of_z (home_held s.before.before.before.before.before.before.before.before)))
     refl
 
 pub go_deeper_spec : {M : Type 1} → statement M

@@ -20,12 +20,12 @@ home_held s = search rules
 
 returns : tie.Need-returns
 returns c =
-    let r = c.before.before in
-    let s = r.before.before.before.before in
+    let r = c in
+    let s = r in
     let k = s.args.c in
     goes_again k s.requires.0 s.requires.1 s.requires.2 s.requires.3
-    (r.rapid-to.ensures ∙ λ i. rapid_to k.pass.facing (to_z-of_z (line_held s) i) (to_z-of_z (home_held s) i))
-    (λ i. record { pass = k.pass; side = k.side; line = to_z-of_z (line_held s) i; depth = k.depth; cuts = k.cuts; empty = k.empty - 1; stage = Cut })
+    (r.rapid_to-record.ensures ∙ λ i. rapid_to k.pass.facing (to_z-of_z (line_held s.before.before.before.before.before.before) i) (to_z-of_z (home_held s.before.before.before.before.before.before) i))
+    (λ i. record { pass = k.pass; side = k.side; line = to_z-of_z (line_held s.before.before.before.before.before.before) i; depth = k.depth; cuts = k.cuts; empty = k.empty - 1; stage = Cut })
 
 pub go_in_again_spec : {M : Type 1} → statement M
 go_in_again_spec = tie.close (tie.spec (λ c κs. search rules) (λ c. search rules) returns)

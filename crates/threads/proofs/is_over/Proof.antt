@@ -18,9 +18,9 @@ is_over_spec =
     (λ c. search rules)
     (λ c. search rules)
     (λ c.
-    let k = c.before.before.before.before.args.c in
+    let k = c.args.c in
     let e : k.stage ≡ In = search rules in
-    ap (λ (t : Bool). t && eqb k.empty 0) c.before.is-over.ensures ∙ sym (over_at_lem k e))
-    (λ c. let k = c.before.before.args.c in let e : k.stage ≡ Cut = search rules in sym (over_at_lem k e))
-    (λ c. let k = c.before.before.args.c in let e : k.stage ≡ Out = search rules in sym (over_at_lem k e))
-    (λ c. let k = c.before.before.args.c in let e : k.stage ≡ Back = search rules in sym (over_at_lem k e)))
+    ap (λ (t : Bool). t && eqb k.empty 0) c.is_over.ensures ∙ sym (over_at_lem k e))
+    (λ c. let k = c.args.c in let e : k.stage ≡ Cut = search rules in sym (over_at_lem k e))
+    (λ c. let k = c.args.c in let e : k.stage ≡ Out = search rules in sym (over_at_lem k e))
+    (λ c. let k = c.args.c in let e : k.stage ≡ Back = search rules in sym (over_at_lem k e)))

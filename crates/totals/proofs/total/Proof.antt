@@ -14,14 +14,14 @@ product s =
     let left : s.args.p.left ≤ 4_294_967_295 = search rules in
     mul-le-mul piece left
 
-mul_result : tie.Need-overflow-mul-result
+mul_result : tie.Need-overflow_mul-result
 mul_result c = omega (arith, product c.before.before.before)
 
-add_result : tie.Need-overflow-add-result
-add_result c = omega (arith, product c.before.before.before, c.before.before.longer-ones.type-inv)
+add_result : tie.Need-overflow_add-result
+add_result c = omega (arith, product c.before.before.before, c.longer_ones-longer.type_inv)
 
 returns : tie.Need-returns
-returns c = omega (arith, c.before.before.longer-ones.ensures, row_sum c.before.before.before.args.p)
+returns c = omega (arith, c.longer_ones-longer.ensures, row_sum c.args.p)
 
 pub total_spec : {M : Type 1} → statement M
 total_spec =

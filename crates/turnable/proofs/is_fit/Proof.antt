@@ -27,16 +27,16 @@ reach_asked c {n} {t} e h a =
 line_held : (s : tie.Start) → SFits w32 s.args.c.line
 line_held s = search rules
 
-returns : tie.Need-returns
-returns c = (λ y. absurd (false≢true y), λ s. absurd (omega (arith, c.before.total.ensures, s.small)))
+returns : tie.Need-returns-then-together-ge-BEYOND_32
+returns c = (λ y. absurd (false≢true y), λ s. absurd (omega (arith, c.total-together.ensures, s.small)))
 
-returns_2 : tie.Need-returns-2
+returns_2 : tie.Need-returns
 returns_2 c =
-    let i = c.before.before in
-    let s = i.before.before.before in
+    let i = c in
+    let s = i in
     let k = s.args.c in
-    reach_asked k i.before.total.ensures (search rules)
-    (subst (λ (l : ℤ). Answers (SFits w32 (l +ℤ along k.side i.before.total.result)) c.ends-within.result) (to_z-of_z (line_held s)) c.ends-within.ensures)
+    reach_asked k i.total-together.ensures (search rules)
+    (subst (λ (l : ℤ). Answers (SFits w32 (l +ℤ along k.side i.total-together.result)) c.ends_within.result) (to_z-of_z (line_held s.before.before.before.before.before)) c.ends_within.ensures)
 
 pub is_fit_spec : {M : Type 1} → statement M
 is_fit_spec =

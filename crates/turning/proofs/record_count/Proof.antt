@@ -12,8 +12,8 @@ use Rattle.turning.proofs.record_count.Tie as tie
 returns : tie.Need-returns
 unfolding record_count
 returns c =
-    let s = c.before.before.before in
-    ap (λ (n : ℕ). 4 * n) (c.pass-count.ensures ∙ ap (λ (e : ℕ). pass_count e s.args.c.division) c.before.net-of.ensures)
+    let s = c in
+    ap (λ (n : ℕ). 4 * n) (c.pass_count-n.ensures ∙ ap (λ (e : ℕ). pass_count e s.args.c.division) c.net_of-e.ensures)
     ∙ sym (turning_length s.args.c (long_enough s.args.c s.requires).0)
 
 pub record_count_spec : {M : Type 1} → statement M
@@ -21,7 +21,7 @@ record_count_spec =
     tie.close
     (tie.spec
     (λ c κs. search rules)
-    (λ c κs. let s = c.before.before in omega (arith, c.net-of.ensures, (long_enough s.args.c s.requires).0))
+    (λ c κs. let s = c in omega (arith, c.net_of-e.ensures, (long_enough s.args.c s.requires).0))
     (λ c. search rules)
     (λ c. search rules)
     returns)

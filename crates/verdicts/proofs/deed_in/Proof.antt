@@ -11,17 +11,17 @@ use Rattle.verdicts.proofs.Sent.{small, centred, feed_settled, known_in}
 use Rattle.verdicts.proofs.deed_in.Statement.{statement}
 use Rattle.verdicts.proofs.deed_in.Tie as tie
 
-block_motion_requires : tie.Need-block-motion-requires
+block_motion_requires : tie.Need-block_motion-motion-requires
 block_motion_requires c κs = search rules
 
-sending_of_requires : tie.Need-sending-of-requires
+sending_of_requires : tie.Need-sending_of-sending-requires
 sending_of_requires c κs = search rules
 
-deed_of_requires : tie.Need-deed-of-requires
+deed_of_requires : tie.Need-deed_of-requires
 unfolding sending_of
 deed_of_requires c κs =
-    let a = c.before.before in
-    let same = sym c.sending-of.ensures in (
+    let a = c in
+    let same = sym c.sending_of-sending.ensures in (
       small a.args.b a.requires.3,
       subst (Centred a.args.b) same (centred a.args.table.now a.args.set a.args.s a.args.b a.requires.2 a.requires.3),
       subst (λ (n : ℕ). n < 32_768) (ap (λ (s : Sending). s.retract) same) (omega (arith, a.requires.1.retract)),
@@ -33,10 +33,10 @@ feed_fits s = search rules
 returns : tie.Need-returns
 unfolding deed_in
 returns c =
-    let a = c.before.before.before in
+    let a = c in
     let r = a.args in
-    let is = c.deed-of.ensures ∙ (λ i. deed_of (c.before.before.block-motion.ensures i) r.b (c.before.sending-of.ensures i)) in
-    (is, subst Known (sym is) (known_in r.table.now r.set r.s r.b a.requires.0 a.requires.1 a.requires.2 a.requires.3 (feed_settled r.s r.b a.requires.3 (feed_fits a))))
+    let is = c.deed_of.ensures ∙ (λ i. deed_of (c.block_motion-motion.ensures i) r.b (c.sending_of-sending.ensures i)) in
+    (is, subst Known (sym is) (known_in r.table.now r.set r.s r.b a.requires.0 a.requires.1 a.requires.2 a.requires.3 (feed_settled r.s r.b a.requires.3 (feed_fits a.before.before.before))))
 
 pub deed_in_spec : {M : Type 1} → statement M
 deed_in_spec =

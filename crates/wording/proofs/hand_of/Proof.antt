@@ -7,7 +7,7 @@ use borrow.Author.Rules.{rules}
 use Rattle.moves.specs.Form.{stamped}
 use Rattle.moves.specs.declared.Record.{Record}
 use Rattle.moves.specs.declared.Origin.{Origin}
-use Rattle.writing.specs.Writes.{writes}
+use Rattle.taking.specs.of_writing.Writes.{writes}
 use Rattle.taking.specs.Hands.{in_hand}
 use Rattle.wording.proofs.hand_of.Statement.{statement}
 use Rattle.wording.proofs.hand_of.Tie as tie

@@ -4,8 +4,8 @@ use Prim.Native.Nat.{◌+◌}
 use native.Mathlib.Omega.{arith}
 use lib.ListN.{length}
 use borrow.Author.Rules.{rules}
-use Rattle.writing.specs.Writes.{writes}
-use Rattle.writing.proofs.Chain.{writes_length}
+use Rattle.taking.specs.of_writing.Writes.{writes}
+use Rattle.taking.proofs.of_writing.Chain.{writes_length}
 use Rattle.taking.specs.Meets.{went_by}
 use Rattle.wording.proofs.open_going.Statement.{statement}
 use Rattle.wording.proofs.open_going.Tie as tie

@@ -14,12 +14,12 @@ use Rattle.finding.specs.Finds.{Finds}
 use Rattle.finding.proofs.Searching.{program_small}
 use Rattle.asking.specs.Judge.{doing}
 use Rattle.deeds.specs.Known.{Right}
-use Rattle.verdicts.specs.Verdicts.{alarm_in, going_of, verdict_of}
-use Rattle.verdicts.specs.Known.{Known}
-use Rattle.verdicts.specs.declared.Going.{Going}
-use Rattle.verdicts.proofs.Passing.{went, was_refused, right_in, counted_in}
-use Rattle.machine.specs.Blocks.{done_records, done_state}
-use Rattle.machine.proofs.Running.{done_few, going_records, going_state}
+use Rattle.taking.specs.of_verdicts.Verdicts.{alarm_in, going_of, verdict_of}
+use Rattle.taking.specs.of_verdicts.Known.{Known}
+use Rattle.taking.specs.of_verdicts.declared.Going.{Going}
+use Rattle.taking.proofs.of_verdicts.Passing.{went, was_refused, right_in, counted_in}
+use Rattle.taking.specs.of_machine.Blocks.{done_records, done_state}
+use Rattle.taking.proofs.of_machine.Running.{done_few, going_records, going_state}
 use Rattle.ahead.specs.Ahead.{onto, FoundAt}
 use Rattle.ahead.specs.declared.Frame.{Frame}
 use Rattle.ahead.specs.declared.Onward.{Onward}

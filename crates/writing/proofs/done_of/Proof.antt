@@ -10,41 +10,39 @@ use Rattle.writing.proofs.Matched.{done_by}
 use Rattle.writing.proofs.done_of.Statement.{statement}
 use Rattle.writing.proofs.done_of.Tie as tie
 
-returns : tie.Need-returns
+returns : tie.Need-returns-in-Nothing
 unfolding done
-returns c = done_by c.before.before.args.s c.enum_told.given.1
+returns c = done_by c.args.s c.in-Nothing.is
 
-returns_2 : tie.Need-returns-2
+returns_2 : tie.Need-returns-in-Nowhere
 unfolding done
-returns_2 c = done_by c.before.before.args.s c.enum-told2.given.1
+returns_2 c = done_by c.args.s c.in-Nowhere.is
 
-returns_3 : tie.Need-returns-3
+returns_3 : tie.Need-returns-in-Dwell
 unfolding done
-returns_3 c = done_by c.before.before.args.s c.enum-told3.given.1
+returns_3 c = done_by c.args.s c.in-Dwell.is
 
-returns_4 : tie.Need-returns-4
+returns_4 : tie.Need-returns-in-Straight
 unfolding done
 returns_4 c =
-    let m = c.before.before.before.before.before.before.before in
-    let s = m.before.before in
-    let r = m.d.given.0.0 in
-    let f : SFits w32 r.goes.x = search rules in
-    let g : SFits w32 r.goes.z = search rules in
-    c.moved.ensures ∙ (λ i. moved s.args.s (s.args.s.rapid_due && not r.rapid) (to_z-of_z f i) (to_z-of_z g i)) ∙ done_by s.args.s m.d.given.1
+    let m = c in
+    let s = m in
+    let f : SFits w32 m.in-Straight.m.goes.x = search rules in
+    let g : SFits w32 m.in-Straight.m.goes.z = search rules in
+    c.moved.ensures ∙ (λ i. moved s.args.s (s.args.s.rapid_due && not m.in-Straight.m.rapid) (to_z-of_z f i) (to_z-of_z g i)) ∙ done_by s.args.s m.in-Straight.is
 
-returns_5 : tie.Need-returns-5
+returns_5 : tie.Need-returns-in-Round
 unfolding done
 returns_5 c =
-    let m = c.before.before.before.before.before.before in
-    let s = m.before.before in
-    let r = m.d2.given.0.0 in
-    let f : SFits w32 r.arc.end.x = search rules in
-    let g : SFits w32 r.arc.end.z = search rules in
-    c.moved2.ensures ∙ (λ i. moved s.args.s s.args.s.rapid_due (to_z-of_z f i) (to_z-of_z g i)) ∙ done_by s.args.s m.d2.given.1
+    let m = c in
+    let s = m in
+    let f : SFits w32 m.in-Round.r.arc.end.x = search rules in
+    let g : SFits w32 m.in-Round.r.arc.end.z = search rules in
+    c.moved-in-Round.ensures ∙ (λ i. moved s.args.s s.args.s.rapid_due (to_z-of_z f i) (to_z-of_z g i)) ∙ done_by s.args.s m.in-Round.is
 
-returns_6 : tie.Need-returns-6
+returns_6 : tie.Need-returns-in-Cycle
 unfolding done
-returns_6 c = done_by c.before.before.args.s c.enum-told4.given.1
+returns_6 c = done_by c.args.s c.in-Cycle.is
 
 pub done_of_spec : {M : Type 1} → statement M
 done_of_spec =

@@ -10,14 +10,14 @@ use Rattle.writing.proofs.other_count.Tie as tie
 returns : tie.Need-returns
 unfolding other_count
 returns c =
-    let coolant = c.before.before in
-    let spindle = coolant.before.before in
-    let tool = spindle.before.before in
-    let speed = tool.before.before in (
-      (λ i. (counted speed.number-if.ensures.0 speed.before.has.ensures i + counted tool.number-if2.ensures.0 tool.before.has2.ensures i)
-          + (counted spindle.number-if3.ensures.0 spindle.before.has3.ensures i + counted coolant.number-if4.ensures.0 coolant.before.has4.ensures i)
-          + counted c.number-if5.ensures.0 c.before.stops.ensures i),
-      omega (arith, speed.number-if.ensures.1, tool.number-if2.ensures.1, spindle.number-if3.ensures.1, coolant.number-if4.ensures.1, c.number-if5.ensures.1),
+    let coolant = c in
+    let spindle = coolant in
+    let tool = spindle in
+    let speed = tool in (
+      (λ i. (counted speed.number_if-speed.ensures.0 speed.has.ensures i + counted tool.number_if-tool.ensures.0 tool.has-2.ensures i)
+          + (counted spindle.number_if-spindle.ensures.0 spindle.has-3.ensures i + counted coolant.number_if-coolant.ensures.0 coolant.has-4.ensures i)
+          + counted c.number_if-stop.ensures.0 c.stops.ensures i),
+      omega (arith, speed.number_if-speed.ensures.1, tool.number_if-tool.ensures.1, spindle.number_if-spindle.ensures.1, coolant.number_if-coolant.ensures.1, c.number_if-stop.ensures.1),
     )
 
 pub other_count_spec : {M : Type 1} → statement M

@@ -10,8 +10,8 @@ use Rattle.writing.proofs.stops.Tie as tie
 returns : tie.Need-returns
 unfolding stops
 returns c =
-    let r = c.returns-by.ensures ∙ ap returns_by c.before.before.m-in.ensures in
-    λ i. c.before.has.ensures i && not (r i)
+    let r = c.returns_by.ensures ∙ ap returns_by c.m_in-code.ensures in
+    λ i. c.has.ensures i && not (r i)
 
 pub stops_spec : {M : Type 1} → statement M
 stops_spec = tie.close (tie.spec (λ c κs. search rules) (λ c κs. search rules) (λ c κs. search rules) returns)

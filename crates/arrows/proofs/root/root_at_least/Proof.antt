@@ -17,7 +17,7 @@ squared_requires c κs = search rules
 returns : tie.Need-returns
 unfolding root_from
 returns c =
-    let s = c.before in
+    let s = c in
     let e : c.squared.result ≡ nat_abs s.args.t * nat_abs s.args.t = c.squared.ensures ∙ search rules in
     λ i. le_z (to_z-of_z s.ranges.t i) (pos 0) || leb (e i) s.args.n
 

@@ -17,7 +17,7 @@ squared_requires c κs = search rules
 returns : tie.Need-returns
 unfolding root_up_to
 returns c =
-    let s = c.before in
+    let s = c in
     let e : c.squared.result ≡ nat_abs s.args.t * nat_abs s.args.t = c.squared.ensures ∙ search rules in
     λ i. le_z (pos 0) (to_z-of_z s.ranges.t i) && leb s.args.n (e i)
 

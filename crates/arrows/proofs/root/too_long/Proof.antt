@@ -29,49 +29,49 @@ far_more : (m n above : ℕ) → above ≡ m - (n + slack * slack) → surely < 
 unfolding exceeds
 far_more m n above e h k = lt-ltb (4 * (slack * slack) * n) ((m - (n + slack * slack)) * (m - (n + slack * slack))) (rw (← e) (omega (arith, mul-le-mul h h)))
 
-mul_if1 : tie.Need-overflow-mul-if1
+mul_if1 : tie.Need-overflow_mul-t-4
 mul_if1 c = search rules
 
-add_if1 : tie.Need-overflow-add-if1
+add_if1 : tie.Need-overflow_add-n
 add_if1 c = search rules
 
-returns : tie.Need-returns
-returns c = sym (no_more c.before.args.m c.before.args.n (omega arith))
+returns : tie.Need-returns-then-m-n
+returns c = sym (no_more c.args.m c.args.n (omega arith))
 
-mul_above : tie.Need-overflow-mul-above
+mul_above : tie.Need-overflow_mul-above
 mul_above c = search rules
 
-add_above : tie.Need-overflow-add-above
+add_above : tie.Need-overflow_add-above
 add_above c = search rules
 
-sub_above : tie.Need-overflow-sub-above
+sub_above : tie.Need-overflow_sub-above
 sub_above c = search rules
 
-returns_2 : tie.Need-returns-2
+returns_2 : tie.Need-returns-then-above-gt-SURELY
 returns_2 c =
-    let m = c.before.before.args.m in
-    let n = c.before.before.args.n in
+    let m = c.args.m in
+    let n = c.args.n in
     sym (far_more m n (m - (n + slack * slack)) refl (omega arith) (omega arith))
 
-mul_result : tie.Need-overflow-mul-result
+mul_result : tie.Need-overflow_mul-result
 mul_result c = search rules
 
-mul_result_2 : tie.Need-overflow-mul-result-2
+mul_result_2 : tie.Need-overflow_mul-result-2
 mul_result_2 c = search rules
 
-mul_result_3 : tie.Need-overflow-mul-result-3
+mul_result_3 : tie.Need-overflow_mul-result-3
 mul_result_3 c = search rules
 
-mul_result_4 : tie.Need-overflow-mul-result-4
+mul_result_4 : tie.Need-overflow_mul-result-4
 mul_result_4 c =
-    let m = c.before.before.args.m in
-    let n = c.before.before.args.n in
+    let m = c.args.m in
+    let n = c.args.n in
     fit (m - (n + slack * slack)) (omega arith)
   where
     fit : (k : ℕ) → k ≤ surely → Fits w64 (k * k)
     fit k h = omega (arith, mul-le-mul h h)
 
-returns_3 : tie.Need-returns-3
+returns_3 : tie.Need-returns
 unfolding exceeds
 returns_3 c = refl
 

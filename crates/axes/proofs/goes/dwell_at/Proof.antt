@@ -11,22 +11,22 @@ use Rattle.axes.proofs.goes.dwell_at.Tie as tie
 dwell_requires : tie.Need-dwell-requires
 dwell_requires c κs = search rules
 
-returns : tie.Need-returns
+returns : tie.Need-returns-then-facing
 unfolding dwell_at
 returns c =
-    let s = c.before.before in
-    picked (dwell s.args.across s.args.inward s.args.tenths) (dwell s.args.inward s.args.across s.args.tenths) c.before.if1.true
+    let s = c in
+    picked (dwell s.args.across s.args.inward s.args.tenths) (dwell s.args.inward s.args.across s.args.tenths) c.if-facing.true
     (c.dwell.ensures ∙ λ i. dwell (to_z-of_z s.ranges.across i) (to_z-of_z s.ranges.inward i) s.args.tenths)
 
 dwell_requires_2 : tie.Need-dwell-requires-2
 dwell_requires_2 c κs = search rules
 
-returns_2 : tie.Need-returns-2
+returns_2 : tie.Need-returns
 unfolding dwell_at
 returns_2 c =
-    let s = c.before.before in
-    picked (dwell s.args.across s.args.inward s.args.tenths) (dwell s.args.inward s.args.across s.args.tenths) c.before.if1.false
-    (c.dwell2.ensures ∙ λ i. dwell (to_z-of_z s.ranges.inward i) (to_z-of_z s.ranges.across i) s.args.tenths)
+    let s = c in
+    picked (dwell s.args.across s.args.inward s.args.tenths) (dwell s.args.inward s.args.across s.args.tenths) c.if-facing.false
+    (c.dwell-2.ensures ∙ λ i. dwell (to_z-of_z s.ranges.inward i) (to_z-of_z s.ranges.across i) s.args.tenths)
 
 pub dwell_at_spec : {M : Type 1} → statement M
 dwell_at_spec = tie.close (tie.spec dwell_requires returns dwell_requires_2 returns_2)

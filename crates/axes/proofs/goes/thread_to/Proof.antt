@@ -11,22 +11,22 @@ use Rattle.axes.proofs.goes.thread_to.Tie as tie
 thread_requires : tie.Need-thread-requires
 thread_requires c κs = search rules
 
-returns : tie.Need-returns
+returns : tie.Need-returns-then-facing
 unfolding thread_to
 returns c =
-    let s = c.before.before in
-    picked (thread s.args.across s.args.inward s.args.pitch) (thread s.args.inward s.args.across s.args.pitch) c.before.if1.true
+    let s = c in
+    picked (thread s.args.across s.args.inward s.args.pitch) (thread s.args.inward s.args.across s.args.pitch) c.if-facing.true
     (c.thread.ensures ∙ λ i. thread (to_z-of_z s.ranges.across i) (to_z-of_z s.ranges.inward i) s.args.pitch)
 
 thread_requires_2 : tie.Need-thread-requires-2
 thread_requires_2 c κs = search rules
 
-returns_2 : tie.Need-returns-2
+returns_2 : tie.Need-returns
 unfolding thread_to
 returns_2 c =
-    let s = c.before.before in
-    picked (thread s.args.across s.args.inward s.args.pitch) (thread s.args.inward s.args.across s.args.pitch) c.before.if1.false
-    (c.thread2.ensures ∙ λ i. thread (to_z-of_z s.ranges.inward i) (to_z-of_z s.ranges.across i) s.args.pitch)
+    let s = c in
+    picked (thread s.args.across s.args.inward s.args.pitch) (thread s.args.inward s.args.across s.args.pitch) c.if-facing.false
+    (c.thread-2.ensures ∙ λ i. thread (to_z-of_z s.ranges.inward i) (to_z-of_z s.ranges.across i) s.args.pitch)
 
 pub thread_to_spec : {M : Type 1} → statement M
 thread_to_spec = tie.close (tie.spec thread_requires returns thread_requires_2 returns_2)

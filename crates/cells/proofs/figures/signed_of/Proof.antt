@@ -1,4 +1,5 @@
 -- `cells::figures::signed_of` meets its contract.
+use mir.Syntax.{w32}
 use mathlib.Core.Path.{ap, ◌∙◌}
 use native.Mathlib.Omega.{arith}
 use mir.Facts.{to_z-of_z}
@@ -10,8 +11,8 @@ use Rattle.cells.proofs.figures.signed_of.Tie as tie
 
 returns : tie.Need-returns
 returns c =
-    let u = c.before.before.args.u in
-    to_z-of_z (sfits_of c.i32-of-bytes.type-inv) ∙ c.i32-of-bytes.ensures ∙ ap signed_of (ap value_of c.before.bytes-of-u32.ensures ∙ read_back 4 u (omega arith))
+    let u = c.args.u in
+    to_z-of_z {w = w32} (sfits_of {w = w32} c.i32_of_bytes.type_inv) ∙ c.i32_of_bytes.ensures ∙ ap signed_of (ap value_of c.bytes_of_u32.ensures ∙ read_back 4 u (omega arith))
 
 pub signed_of_spec : {M : Type 1} → statement M
 signed_of_spec = tie.close (tie.spec (λ c κs. search rules) (λ c κs. search rules) returns)

@@ -9,9 +9,9 @@ use Rattle.cells.proofs.figures.word_of.Tie as tie
 
 returns : tie.Need-returns
 returns c =
-    let s = c.before.before in
+    let s = c in
     let f = s.ranges.v in
-    ap signed_of (c.u32-of-bytes.ensures ∙ ap value_of (c.before.bytes-of-i32.ensures ∙ ap signed_bytes (to_z-of_z f))) ∙ signed_read_back s.args.v f
+    ap signed_of (c.u32_of_bytes.ensures ∙ ap value_of (c.bytes_of_i32.ensures ∙ ap signed_bytes (to_z-of_z f))) ∙ signed_read_back s.args.v f
 
 pub word_of_spec : {M : Type 1} → statement M
 word_of_spec = tie.close (tie.spec (λ c κs. search rules) (λ c κs. search rules) returns)

@@ -6,14 +6,14 @@ use Rattle.cuts.specs.declared.Cuts.TheVariants.{Even, ByDepth, ByNumber}
 use Rattle.cyclewords.proofs.cutting.cuts_at.Statement.{statement}
 use Rattle.cyclewords.proofs.cutting.cuts_at.Tie as tie
 
-returns : tie.Need-returns
-returns c = rw (eq-eqb _ _ c.before.if1.true) (ap Even c.pieces-at.ensures)
+returns : tie.Need-returns-then-tag-eq-EVEN
+returns c = rw (eq-eqb _ _ c.if-tag-eq-EVEN.true) (ap Even c.pieces_at.ensures)
 
-returns_2 : tie.Need-returns-2
-returns_2 c = let f = c.before in rw (ne_eqb _ _ f.before.if1.false, eq-eqb _ _ c.if2.true) (ap ByDepth f.falling-at.ensures)
+returns_2 : tie.Need-returns-then-tag-eq-BY_DEPTH
+returns_2 c = let f = c in rw (ne_eqb _ _ f.if-tag-eq-EVEN.false, eq-eqb _ _ c.if-tag-eq-BY_DEPTH.true) (ap ByDepth f.falling_at-falling.ensures)
 
-returns_3 : tie.Need-returns-3
-returns_3 c = let f = c.before in rw (ne_eqb _ _ f.before.if1.false, ne_eqb _ _ c.if2.false) (ap ByNumber f.falling-at.ensures)
+returns_3 : tie.Need-returns
+returns_3 c = let f = c in rw (ne_eqb _ _ f.if-tag-eq-EVEN.false, ne_eqb _ _ c.if-tag-eq-BY_DEPTH.false) (ap ByNumber f.falling_at-falling.ensures)
 
 pub cuts_at_spec : {M : Type 1} → statement M
 cuts_at_spec =

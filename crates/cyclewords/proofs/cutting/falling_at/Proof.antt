@@ -7,9 +7,9 @@ use Rattle.cyclewords.proofs.cutting.falling_at.Tie as tie
 
 returns : tie.Need-returns
 returns c =
-    let sum = c.before in
-    let square = sum.before in
-    let s = square.before.before.before.before in
+    let sum = c in
+    let square = sum in
+    let s = square in
     let w = s.args.w.now in
     let k = s.args.at in
     λ i.
@@ -17,7 +17,7 @@ returns c =
       d3 = at w k;
       d6 = at w (k + 1);
       square = square.wide_at.ensures i;
-      sum = sum.wide-at2.ensures i;
+      sum = sum.wide_at-2.ensures i;
       left = at w (k + 6);
     }
 

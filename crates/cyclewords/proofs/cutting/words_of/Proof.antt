@@ -5,14 +5,14 @@ use Rattle.cuts.specs.declared.Cuts.TheVariants.{ByDepth, ByNumber}
 use Rattle.cyclewords.proofs.cutting.words_of.Statement.{statement}
 use Rattle.cyclewords.proofs.cutting.words_of.Tie as tie
 
-returns : tie.Need-returns
-returns c = c.even-words.ensures ∙ sym c.before.before.c.given.1
+returns : tie.Need-returns-in-Even
+returns c = c.even_words.ensures ∙ sym c.in-Even.is
 
-returns_2 : tie.Need-returns-2
-returns_2 c = rw c.falling-words.ensures.0 (ap ByDepth c.falling-words.ensures.1) ∙ sym c.before.before.c2.given.1
+returns_2 : tie.Need-returns-in-ByDepth
+returns_2 c = rw c.falling_words.ensures.0 (ap ByDepth c.falling_words.ensures.1) ∙ sym c.in-ByDepth.is
 
-returns_3 : tie.Need-returns-3
-returns_3 c = rw c.falling-words2.ensures.0 (ap ByNumber c.falling-words2.ensures.1) ∙ sym c.before.before.c3.given.1
+returns_3 : tie.Need-returns-in-ByNumber
+returns_3 c = rw c.falling_words-in-ByNumber.ensures.0 (ap ByNumber c.falling_words-in-ByNumber.ensures.1) ∙ sym c.in-ByNumber.is
 
 pub words_of_spec : {M : Type 1} → statement M
 words_of_spec =

@@ -19,26 +19,26 @@ held s = record { x = search rules; start = search rules; target = search rules 
 
 returns : tie.Need-returns
 returns c =
-    let target = c.before in
-    let start = target.before.before in
-    let x = start.before.before in
-    let full = x.before.before in
-    let s = full.before in
+    let target = c in
+    let start = target in
+    let x = start in
+    let full = x in
+    let s = full in
     let v = s.args.b in
-    let h = held s in
+    let h = held s.before.before.before.before.before.before.before.before in
     λ i.
     record {
-      full = full.flag_word.ensures i;
-      x = (x.word_of.ensures ∙ to_z-of_z h.x) i;
-      start = (start.word-of2.ensures ∙ to_z-of_z h.start) i;
-      target = (target.word-of3.ensures ∙ to_z-of_z h.target) i;
+      full = full.flag_word-full.ensures i;
+      x = (x.word_of-x.ensures ∙ to_z-of_z h.x) i;
+      start = (start.word_of-start.ensures ∙ to_z-of_z h.start) i;
+      target = (target.word_of-target.ensures ∙ to_z-of_z h.target) i;
       first = v.first;
       less = v.less;
       least = v.least;
       dwell = v.dwell;
       back = v.back;
       f = v.f;
-      g95 = c.flag-word2.ensures i;
+      g95 = c.flag_word-g95.ensures i;
     }
 
 pub bore_words_spec : {M : Type 1} → statement M

@@ -8,13 +8,13 @@ use Rattle.cyclewords.proofs.drilled.cursor_of.Tie as tie
 returns : tie.Need-returns
 unfolding drilling_of
 returns c =
-    let stage = c.before.before.before in
-    let bore = stage.before.before in
-    let w = bore.before.before.args.w.now in
+    let stage = c in
+    let bore = stage in
+    let w = bore.args.w.now in
     λ i.
     record {
-      bore = bore.bore-of.ensures i;
-      stage = stage.stage-of.ensures i;
+      bore = bore.bore_of-bore.ensures i;
+      stage = stage.stage_of-stage.ensures i;
       deep = at w 14;
       bite = at w 15;
       left = at w 16;

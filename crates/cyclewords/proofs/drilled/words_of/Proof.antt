@@ -8,10 +8,10 @@ use Rattle.cyclewords.proofs.drilled.words_of.Tie as tie
 returns : tie.Need-returns
 unfolding drilling_of
 returns c =
-    let bore = c.before in
-    let s = bore.before in
+    let bore = c in
+    let s = bore in
     let v = s.args.c in
-    (refl, refl, λ i. record { bore = bore.bore-words.ensures i; stage = c.stage-word.ensures i; deep = v.deep; bite = v.bite; left = v.left })
+    (refl, refl, λ i. record { bore = bore.bore_words-bore.ensures i; stage = c.stage_word-stage.ensures i; deep = v.deep; bite = v.bite; left = v.left })
 
 pub words_of_spec : {M : Type 1} → statement M
 words_of_spec =

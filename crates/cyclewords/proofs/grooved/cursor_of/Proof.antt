@@ -11,22 +11,22 @@ use Rattle.cyclewords.proofs.grooved.cursor_of.Tie as tie
 returns : tie.Need-returns
 unfolding grooving_of
 returns c =
-    let width = c.before.before in
-    let steps = width.before in
-    let plunge = steps.before in
-    let cuts = plunge.before in
-    let stage = cuts.before in
-    let groove = stage.before.before in
-    let w = groove.before.before.args.w.now in
+    let width = c in
+    let steps = width in
+    let plunge = steps in
+    let cuts = plunge in
+    let stage = cuts in
+    let groove = stage in
+    let w = groove.args.w.now in
     λ i.
     record {
-      groove = groove.groove-of.ensures i;
-      stage = stage.stage-of.ensures i;
-      width = (to_z-of_z (sfits_of {w = w32} width.signed-at.type-inv) ∙ width.signed-at.ensures) i;
+      groove = groove.groove_of-groove.ensures i;
+      stage = stage.stage_of-stage.ensures i;
+      width = (to_z-of_z (sfits_of {w = w32} width.signed_at.type_inv) ∙ width.signed_at.ensures) i;
       deep = at w 16;
-      cuts = cuts.pieces-at.ensures i;
-      plunge = plunge.pieces-at2.ensures i;
-      steps = steps.pieces-at3.ensures i;
+      cuts = cuts.pieces_at-cuts.ensures i;
+      plunge = plunge.pieces_at-plunge.ensures i;
+      steps = steps.pieces_at-steps.ensures i;
       several = c.flag_at.ensures i;
     }
 

@@ -6,22 +6,22 @@ use Rattle.cyclewords.proofs.grooved.groove_of.Tie as tie
 
 returns : tie.Need-returns
 returns c =
-    let facing = c.before.before.before.before.before.before.before in
-    let width = facing.before in
-    let depth = width.before in
-    let w = depth.before.before.args.w.now in
+    let facing = c in
+    let width = facing in
+    let depth = width in
+    let w = depth.args.w.now in
     λ i.
     record {
       facing = facing.flag_at.ensures i;
-      depth = depth.way_at.ensures i;
-      width = width.way-at2.ensures i;
+      depth = depth.way_at-depth.ensures i;
+      width = width.way_at-width.ensures i;
       tool = at w 7;
       overlap = at w 8;
       piece = at w 9;
       back = at w 10;
       dwell = at w 11;
       f = at w 12;
-      g95 = c.flag-at2.ensures i;
+      g95 = c.flag_at-2.ensures i;
     }
 
 pub groove_of_spec : {M : Type 1} → statement M

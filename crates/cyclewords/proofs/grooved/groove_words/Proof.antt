@@ -20,26 +20,26 @@ held s = record { top = search rules; bottom = search rules; first = search rule
 
 returns : tie.Need-returns
 returns c =
-    let last = c.before in
-    let first = last.before.before in
-    let bottom = first.before.before in
-    let top = bottom.before.before in
-    let facing = top.before.before in
-    let s = facing.before.before.before in
+    let last = c in
+    let first = last in
+    let bottom = first in
+    let top = bottom in
+    let facing = top in
+    let s = facing in
     let v = s.args.g in
-    let h = held s in
+    let h = held s.before.before.before.before.before.before.before.before.before.before.before.before in
     λ i.
     record {
-      facing = facing.flag_word.ensures i;
-      depth = record { start = (top.word_of.ensures ∙ to_z-of_z h.top) i; target = (bottom.word-of2.ensures ∙ to_z-of_z h.bottom) i };
-      width = record { start = (first.word-of3.ensures ∙ to_z-of_z h.first) i; target = (last.word-of4.ensures ∙ to_z-of_z h.last) i };
+      facing = facing.flag_word-facing.ensures i;
+      depth = record { start = (top.word_of-top.ensures ∙ to_z-of_z h.top) i; target = (bottom.word_of-bottom.ensures ∙ to_z-of_z h.bottom) i };
+      width = record { start = (first.word_of-first.ensures ∙ to_z-of_z h.first) i; target = (last.word_of-last.ensures ∙ to_z-of_z h.last) i };
       tool = v.tool;
       overlap = v.overlap;
       piece = v.piece;
       back = v.back;
       dwell = v.dwell;
       f = v.f;
-      g95 = c.flag-word2.ensures i;
+      g95 = c.flag_word-g95.ensures i;
     }
 
 pub groove_words_spec : {M : Type 1} → statement M

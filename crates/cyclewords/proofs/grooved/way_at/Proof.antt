@@ -8,11 +8,11 @@ use Rattle.cyclewords.proofs.grooved.way_at.Tie as tie
 
 returns : tie.Need-returns
 returns c =
-    let start = c.before in
+    let start = c in
     λ i.
     record {
-      start = (to_z-of_z (sfits_of {w = w32} start.signed-at.type-inv) ∙ start.signed-at.ensures) i;
-      target = (to_z-of_z (sfits_of {w = w32} c.signed-at2.type-inv) ∙ c.signed-at2.ensures) i;
+      start = (to_z-of_z (sfits_of {w = w32} start.signed_at.type_inv) ∙ start.signed_at.ensures) i;
+      target = (to_z-of_z (sfits_of {w = w32} c.signed_at-2.type_inv) ∙ c.signed_at-2.ensures) i;
     }
 
 pub way_at_spec : {M : Type 1} → statement M

@@ -19,24 +19,24 @@ held s = record { width = search rules }
 returns : tie.Need-returns
 unfolding grooving_of
 returns c =
-    let width = c.before in
-    let stage = width.before.before in
-    let groove = stage.before in
-    let s = groove.before in
+    let width = c in
+    let stage = width in
+    let groove = stage in
+    let s = groove in
     let v = s.args.c in
-    let h = held s in (
+    let h = held s.before.before.before.before.before.before in (
       refl,
       refl,
       λ i.
           record {
-            groove = groove.groove-words.ensures i;
-            stage = stage.stage-word.ensures i;
-            width = (width.word_of.ensures ∙ to_z-of_z h.width) i;
+            groove = groove.groove_words-groove.ensures i;
+            stage = stage.stage_word-stage.ensures i;
+            width = (width.word_of-width.ensures ∙ to_z-of_z h.width) i;
             deep = v.deep;
             cuts = v.cuts;
             plunge = v.plunge;
             steps = v.steps;
-            several = c.flag_word.ensures i;
+            several = c.flag_word-several.ensures i;
           },
     )
 

@@ -11,21 +11,21 @@ use Rattle.cyclewords.proofs.threaded.cursor_of.Tie as tie
 returns : tie.Need-returns
 unfolding threading_of
 returns c =
-    let line = c.before.before in
-    let stage = line.before in
-    let cuts = stage.before.before in
-    let side = cuts.before in
-    let pass = side.before.before in
-    let w = pass.before.before.args.w.now in
+    let line = c in
+    let stage = line in
+    let cuts = stage in
+    let side = cuts in
+    let pass = side in
+    let w = pass.args.w.now in
     λ i.
     record {
-      pass = pass.pass_of.ensures i;
-      side = side.side-of.ensures i;
-      line = (to_z-of_z (sfits_of {w = w32} line.signed-at.type-inv) ∙ line.signed-at.ensures) i;
+      pass = pass.pass_of-pass.ensures i;
+      side = side.side_of-side.ensures i;
+      line = (to_z-of_z (sfits_of {w = w32} line.signed_at.type_inv) ∙ line.signed_at.ensures) i;
       depth = at w 9;
-      cuts = cuts.cuts-at.ensures i;
+      cuts = cuts.cuts_at-cuts.ensures i;
       empty = at w 18;
-      stage = stage.stage-of.ensures i;
+      stage = stage.stage_of-stage.ensures i;
     }
 
 pub cursor_of_spec : {M : Type 1} → statement M

@@ -20,24 +20,24 @@ held s = record { from = search rules; home = search rules; end = search rules; 
 
 returns : tie.Need-returns
 returns c =
-    let side = c.before.before in
-    let end = side.before in
-    let home = end.before.before in
-    let from = home.before.before in
-    let facing = from.before.before in
-    let s = facing.before.before in
+    let side = c in
+    let end = side in
+    let home = end in
+    let from = home in
+    let facing = from in
+    let s = facing in
     let v = s.args.c in
-    let h = held s in (
+    let h = held s.before.before.before.before.before.before.before.before.before.before.before in (
       λ i.
           record {
-            facing = facing.flag_word.ensures i;
+            facing = facing.flag_word-facing.ensures i;
             pitch = v.pass.pitch;
-            from = (from.word_of.ensures ∙ to_z-of_z h.from) i;
-            home = (home.word-of2.ensures ∙ to_z-of_z h.home) i;
-            end = (end.word-of3.ensures ∙ to_z-of_z h.end) i;
+            from = (from.word_of-from.ensures ∙ to_z-of_z h.from) i;
+            home = (home.word_of-home.ensures ∙ to_z-of_z h.home) i;
+            end = (end.word_of-end.ensures ∙ to_z-of_z h.end) i;
           },
-      side.side-word.ensures,
-      c.word-of4.ensures ∙ to_z-of_z h.line,
+      side.side_word-side.ensures,
+      c.word_of-line.ensures ∙ to_z-of_z h.line,
       refl,
     )
 

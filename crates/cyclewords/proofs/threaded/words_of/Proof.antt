@@ -8,11 +8,11 @@ use Rattle.cyclewords.proofs.threaded.words_of.Tie as tie
 returns : tie.Need-returns
 unfolding threading_of
 returns c =
-    let cuts = c.before in
-    let front = cuts.before in
-    let s = front.before in
+    let cuts = c in
+    let front = cuts in
+    let s = front in
     let v = s.args.c in
-    let e = front.front-words.ensures in (
+    let e = front.front_words-front.ensures in (
       refl,
       refl,
       λ i.
@@ -21,9 +21,9 @@ returns c =
             side = e.1 i;
             line = e.2 i;
             depth = e.3 i;
-            cuts = cuts.words_of.ensures i;
+            cuts = cuts.words_of-cuts.ensures i;
             empty = v.empty;
-            stage = c.stage-word.ensures i;
+            stage = c.stage_word-stage.ensures i;
           },
     )
 

@@ -10,17 +10,17 @@ use Rattle.cyclewords.proofs.turned.cursor_of.Tie as tie
 returns : tie.Need-returns
 unfolding turning_of
 returns c =
-    let stage = c.before in
-    let side = stage.before.before in
-    let depths = side.before.before in
-    let pass = depths.before in
+    let stage = c in
+    let side = stage in
+    let depths = side in
+    let pass = depths in
     λ i.
     record {
-      pass = pass.pass_of.ensures i;
-      side = side.side-of.ensures i;
-      line = (to_z-of_z (sfits_of {w = w32} c.signed-at.type-inv) ∙ c.signed-at.ensures) i;
-      depths = depths.pieces-at.ensures i;
-      stage = stage.stage-of.ensures i;
+      pass = pass.pass_of-pass.ensures i;
+      side = side.side_of-side.ensures i;
+      line = (to_z-of_z (sfits_of {w = w32} c.signed_at.type_inv) ∙ c.signed_at.ensures) i;
+      depths = depths.pieces_at-depths.ensures i;
+      stage = stage.stage_of-stage.ensures i;
     }
 
 pub cursor_of_spec : {M : Type 1} → statement M

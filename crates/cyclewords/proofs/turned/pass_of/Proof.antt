@@ -9,19 +9,19 @@ use Rattle.cyclewords.proofs.turned.pass_of.Tie as tie
 
 returns : tie.Need-returns
 returns c =
-    let home = c.before in
-    let from = home.before in
-    let g95 = from.before in
-    let facing = g95.before.before in
-    let w = facing.before.before.args.w.now in
+    let home = c in
+    let from = home in
+    let g95 = from in
+    let facing = g95 in
+    let w = facing.args.w.now in
     λ i.
     record {
       facing = facing.flag_at.ensures i;
       f = at w 3;
-      g95 = g95.flag-at2.ensures i;
-      from = (to_z-of_z (sfits_of {w = w32} from.signed-at.type-inv) ∙ from.signed-at.ensures) i;
-      home = (to_z-of_z (sfits_of {w = w32} home.signed-at2.type-inv) ∙ home.signed-at2.ensures) i;
-      end = (to_z-of_z (sfits_of {w = w32} c.signed-at3.type-inv) ∙ c.signed-at3.ensures) i;
+      g95 = g95.flag_at-2.ensures i;
+      from = (to_z-of_z (sfits_of {w = w32} from.signed_at.type_inv) ∙ from.signed_at.ensures) i;
+      home = (to_z-of_z (sfits_of {w = w32} home.signed_at-2.type_inv) ∙ home.signed_at-2.ensures) i;
+      end = (to_z-of_z (sfits_of {w = w32} c.signed_at-3.type_inv) ∙ c.signed_at-3.ensures) i;
     }
 
 pub pass_of_spec : {M : Type 1} → statement M

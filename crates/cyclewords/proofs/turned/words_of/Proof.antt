@@ -8,10 +8,10 @@ use Rattle.cyclewords.proofs.turned.words_of.Tie as tie
 returns : tie.Need-returns
 unfolding turning_of
 returns c =
-    let front = c.before in
-    let s = front.before.before in
-    let e = front.front-words.ensures in
-    (refl, refl, λ i. record { pass = e.0 i; side = e.1 i; line = e.2 i; depths = s.args.c.depths; stage = c.stage-word.ensures i })
+    let front = c in
+    let s = front in
+    let e = front.front_words-front.ensures in
+    (refl, refl, λ i. record { pass = e.0 i; side = e.1 i; line = e.2 i; depths = s.args.c.depths; stage = c.stage_word-stage.ensures i })
 
 pub words_of_spec : {M : Type 1} → statement M
 words_of_spec =

@@ -9,17 +9,17 @@ use Rattle.lawful.proofs.right.flag_of.Statement.{statement}
 use Rattle.lawful.proofs.right.flag_of.Tie as tie
 
 -- what the first test asks
-asked : (c : tie.After-is-arc) → (eqb c.before.args.kind feed_kind || c.is-arc.result) ≡ (eqb c.before.args.kind feed_kind || is_arc c.before.args.kind)
-asked c = ap (λ (t : Bool). eqb c.before.args.kind feed_kind || t) c.is-arc.ensures
+asked : (c : tie.After-is_arc) → (eqb c.args.kind feed_kind || c.is_arc.result) ≡ (eqb c.args.kind feed_kind || is_arc c.args.kind)
+asked c = ap (λ (t : Bool). eqb c.args.kind feed_kind || t) c.is_arc.ensures
 
-returns : tie.Need-returns
-returns c = flag_first c.before.before.args.kind (asked c.before) c.if1.true
+returns : tie.Need-returns-then-kind-is_arc
+returns c = flag_first c.args.kind (asked c.before) c.if-kind-is_arc.true
 
-returns_2 : tie.Need-returns-2
-returns_2 c = flag_second c.before.before.before.args.kind (asked c.before.before) c.before.if1.false c.if2.true
+returns_2 : tie.Need-returns-then-kind-eq-SPEED
+returns_2 c = flag_second c.args.kind (asked c.before.before) c.if-kind-is_arc.false c.if-kind-eq-SPEED.true
 
-returns_3 : tie.Need-returns-3
-returns_3 c = no_flag c.before.before.before.args.kind (asked c.before.before) c.before.if1.false c.if2.false
+returns_3 : tie.Need-returns
+returns_3 c = no_flag c.args.kind (asked c.before.before) c.if-kind-is_arc.false c.if-kind-eq-SPEED.false
 
 pub flag_of_spec : {M : Type 1} → statement M
 flag_of_spec = tie.close (tie.spec (λ c κs. search rules) returns returns_2 returns_3)

@@ -9,15 +9,15 @@ use Rattle.lawful.specs.Right.{in_three_tables, place_right}
 use Rattle.lawful.proofs.right.place_right.Statement.{statement}
 use Rattle.lawful.proofs.right.place_right.Tie as tie
 
-returns : tie.Need-returns
+returns : tie.Need-returns-then-kind-eq-CENTRE
 unfolding place_right
-returns c = rw (eq-eqb c.before.args.kind centre_kind c.if1.true) (ap in_three_tables (to_z-of_z c.before.ranges.place))
+returns c = rw (eq-eqb c.args.kind centre_kind c.if-kind-eq-CENTRE.true) (ap in_three_tables (to_z-of_z c.ranges.place))
 
-returns_2 : tie.Need-returns-2
+returns_2 : tie.Need-returns
 unfolding place_right
 returns_2 c =
-    let s = c.before.before in
-    rw (ne_eqb s.args.kind centre_kind c.before.if1.false) (c.in-table.ensures ∙ ap in_table (to_z-of_z s.ranges.place))
+    let s = c in
+    rw (ne_eqb s.args.kind centre_kind c.if-kind-eq-CENTRE.false) (c.in_table.ensures ∙ ap in_table (to_z-of_z s.ranges.place))
 
 pub place_right_spec : {M : Type 1} → statement M
 place_right_spec = tie.close (tie.spec returns (λ c κs. search rules) returns_2)

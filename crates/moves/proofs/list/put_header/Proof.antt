@@ -10,14 +10,14 @@ use Rattle.moves.proofs.list.put_header.Tie as tie
 
 returns : tie.Need-returns
 returns c =
-    let p2 = c.before.before in
-    let p1 = p2.before.before.before.before in
-    let n = p1.before.before in
-    let v = n.before in
-    let s = v.before.before in
-    p2.put-four2.ensures
-    ∙ (λ i. laid (p1.put_four.ensures i) 4 (get_or (v.bytes-of-u16.ensures i) 1 0 ∷ get_or (n.bytes-of-u162.ensures i) 0 0 ∷ get_or (n.bytes-of-u162.ensures i) 1 0 ∷ 0 ∷ []))
-    ∙ (λ i. laid (laid s.args.buf.now 0 (84 ∷ 77 ∷ 86 ∷ get_or (v.bytes-of-u16.ensures i) 0 0 ∷ [])) 4
+    let p2 = c in
+    let p1 = p2 in
+    let n = p1 in
+    let v = n in
+    let s = v in
+    p2.put_four-2.ensures
+    ∙ (λ i. laid (p1.put_four.ensures i) 4 (get_or (v.bytes_of_u16-version.ensures i) 1 0 ∷ get_or (n.bytes_of_u16-records.ensures i) 0 0 ∷ get_or (n.bytes_of_u16-records.ensures i) 1 0 ∷ 0 ∷ []))
+    ∙ (λ i. laid (laid s.args.buf.now 0 (84 ∷ 77 ∷ 86 ∷ get_or (v.bytes_of_u16-version.ensures i) 0 0 ∷ [])) 4
     (0 ∷ get_or (little_endian 2 s.args.count) 0 0 ∷ get_or (little_endian 2 s.args.count) 1 0 ∷ 0 ∷ []))
     ∙ header_laid s.args.buf.now s.args.count s.requires
 

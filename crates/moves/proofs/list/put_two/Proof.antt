@@ -10,13 +10,13 @@ use Rattle.moves.proofs.list.put_two.Tie as tie
 
 returns : tie.Need-returns
 returns c =
-    let p2 = c.before.before in
-    let p1 = p2.before.before.before.before in
-    let s = p1.before.before.before in
+    let p2 = c in
+    let p1 = p2 in
+    let s = p1 in
     let o = s.args.origin in
     let room = s.requires in
     let w1 = one_written room (none_written o s.args.part.now 0 (s.args.first ∷ s.args.second ∷ [])) s.args.first _ refl p1.put_record.ensures in
-    let w2 = one_written room w1 s.args.second _ refl (lent _ record_size (record_bytes (listed o s.args.second)) p2.put-record2.new.0 p2.put-record2.ensures) in
+    let w2 = one_written room w1 s.args.second _ refl (lent _ record_size (record_bytes (listed o s.args.second)) p2.put_record-2.new.part p2.put_record-2.ensures) in
     all_written room w2 refl
 
 pub put_two_spec : {M : Type 1} → statement M

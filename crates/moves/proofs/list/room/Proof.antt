@@ -4,15 +4,15 @@ use Rattle.moves.specs.Form.{room_of}
 use Rattle.moves.proofs.list.room.Statement.{statement}
 use Rattle.moves.proofs.list.room.Tie as tie
 
-returns : tie.Need-returns
+returns : tie.Need-returns-then-bytes-lt-HEADER_SIZE
 unfolding room_of
 returns c = omega arith
 
-returns_2 : tie.Need-returns-2
+returns_2 : tie.Need-returns-then-records-lt-RECORD_LIMIT
 unfolding room_of
 returns_2 c = omega arith
 
-returns_3 : tie.Need-returns-3
+returns_3 : tie.Need-returns
 unfolding room_of
 returns_3 c = omega arith
 

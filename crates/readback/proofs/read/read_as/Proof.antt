@@ -18,30 +18,30 @@ some : (v : Version) → 0 < size_in v
 some One = omega arith
 some Two = omega arith
 
-div_held : tie.Need-nonzero-div-held
-div_held c = let k = some c.before.before.args.v in omega (arith, k, c.record-size.ensures)
+div_held : tie.Need-nonzero_div-held
+div_held c = let k = some c.args.v in omega (arith, k, c.record_size.ensures)
 
 -- how many there is room for
-many : (c : tie.After-record-size) → let s = c.before.before in (length s.args.list.now - header_size) / c.record-size.result ≡ held_by s.args.v s.args.list.now
-many c = let s = c.before.before in ap (λ (n : ℕ). (length s.args.list.now - header_size) / n) c.record-size.ensures
+many : (c : tie.After-record_size) → let s = c in (length s.args.list.now - header_size) / c.record_size.result ≡ held_by s.args.v s.args.list.now
+many c = let s = c in ap (λ (n : ℕ). (length s.args.list.now - header_size) / n) c.record_size.ensures
 
-returns : tie.Need-returns
+returns : tie.Need-returns-then-k-held
 returns c =
-    let m = c.before in
-    let s = m.before.before in
-    not_held s.args.list.now s.args.v _ (many m) s.args.k (omega arith)
+    let m = c in
+    let s = m in
+    not_held s.args.list.now s.args.v _ (many m.before) s.args.k (omega arith)
 
-found_at_requires : tie.Need-found-at-requires
+found_at_requires : tie.Need-found_at-requires
 found_at_requires c κs =
-    let m = c.before in
-    let s = m.before.before in
-    held s.args.list.now s.args.v _ (many m) s.args.k s.requires (omega arith)
+    let m = c in
+    let s = m in
+    held s.args.list.now s.args.v _ (many m.before) s.args.k s.requires (omega arith)
 
-returns_2 : tie.Need-returns-2
+returns_2 : tie.Need-returns
 returns_2 c =
-    let m = c.before.before in
-    let s = m.before.before in
-    c.found_at.ensures ∙ held_found s.args.list.now s.args.v _ (many m) s.args.k (omega arith)
+    let m = c in
+    let s = m in
+    c.found_at.ensures ∙ held_found s.args.list.now s.args.v _ (many m.before.before) s.args.k (omega arith)
 
 pub read_as_spec : {M : Type 1} → statement M
 read_as_spec = tie.close (tie.spec (λ c. search rules) (λ c κs. search rules) div_held returns found_at_requires returns_2)

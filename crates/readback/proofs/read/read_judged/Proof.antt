@@ -7,15 +7,15 @@ use Rattle.readback.proofs.Accepted.{too_short}
 use Rattle.readback.proofs.read.read_judged.Statement.{statement}
 use Rattle.readback.proofs.read.read_judged.Tie as tie
 
-returns : tie.Need-returns
-returns c = let s = c.before.before in too_short s.args.list.now s.args.k c.if1.true
+returns : tie.Need-returns-then-list-lt-HEADER_SIZE
+returns c = let s = c in too_short s.args.list.now s.args.k c.if-list-lt-HEADER_SIZE.true
 
-returns_2 : tie.Need-returns-2
+returns_2 : tie.Need-returns
 unfolding read_judged
 returns_2 c =
-    let n = c.before in
-    let s = n.before.before.before in
-    c.read_as.ensures ∙ ap (λ (v : Version). read_as v s.args.list.now s.args.k) n.version-named.ensures
+    let n = c in
+    let s = n in
+    c.read_as.ensures ∙ ap (λ (v : Version). read_as v s.args.list.now s.args.k) n.version_named.ensures
 
 pub read_judged_spec : {M : Type 1} → statement M
 read_judged_spec = tie.close (tie.spec returns (λ c κs. search rules) (λ c κs. search rules) returns_2)

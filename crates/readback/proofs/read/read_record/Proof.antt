@@ -9,31 +9,31 @@ use Rattle.readback.proofs.read.read_record.Statement.{statement}
 use Rattle.readback.proofs.read.read_record.Tie as tie
 
 -- the list was judged good
-good : (c : tie.After-known-told2) → judged c.before.before.before.before.before.args.list.now ≡ judging.Good c.before.judged2.given.0.0 c.before.judged2.given.0.1.0
-good c = sym c.before.before.before.judge-list.ensures ∙ c.before.judged2.given.1
+good : (c : tie.In-Good) → judged c.args.list.now ≡ judging.Good c.in-Good.v c.in-Good.count
+good c = sym c.judge_list-judged.ensures ∙ c.in-Good.is
 
-returns : tie.Need-returns
+returns : tie.Need-returns-then-k-count
 returns c =
-    let t = c.before in
-    let s = t.before.before.before.before.before in
-    no_such s.args.list.now _ _ (good t) s.args.k (omega arith)
+    let t = c in
+    let s = t in
+    no_such s.args.list.now _ _ (good t.before) s.args.k (omega arith)
 
-found_at_requires : tie.Need-found-at-requires
+found_at_requires : tie.Need-found_at-requires
 found_at_requires c κs =
-    let t = c.before in
-    let s = t.before.before.before.before.before in
-    has s.args.list.now _ _ (good t) s.args.k (omega arith)
+    let t = c in
+    let s = t in
+    has s.args.list.now _ _ (good t.before) s.args.k (omega arith)
 
-returns_2 : tie.Need-returns-2
+returns_2 : tie.Need-returns-in-Refused
 returns_2 c =
-    let s = c.before.before.before.before.before in
-    not_read s.args.list.now _ (sym c.before.before.before.judge-list.ensures ∙ c.before.judged.given.1) s.args.k
+    let s = c in
+    not_read s.args.list.now _ (sym c.judge_list-judged.ensures ∙ c.in-Refused.is) s.args.k
 
-returns_3 : tie.Need-returns-3
+returns_3 : tie.Need-returns-else-k-count
 returns_3 c =
-    let t = c.before.before in
-    let s = t.before.before.before.before.before in
-    c.found_at.ensures ∙ found s.args.list.now _ _ (good t) s.args.k (omega arith)
+    let t = c in
+    let s = t in
+    c.found_at.ensures ∙ found s.args.list.now _ _ (good t.before.before) s.args.k (omega arith)
 
 pub read_record_spec : {M : Type 1} → statement M
 read_record_spec =

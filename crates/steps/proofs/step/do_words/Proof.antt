@@ -8,10 +8,10 @@ use Rattle.octets.specs.Bytes.{laid}
 use Rattle.moves.specs.Form.{record_start, room_of, row_bytes}
 use Rattle.moves.proofs.OneReading.{length_stamped}
 use Rattle.moves.proofs.Room.{room_fits}
-use Rattle.stages.specs.Cursor.{rest_of}
-use Rattle.taking.specs.declared.Hand.{Hand}
-use Rattle.taking.specs.declared.Opened.{Opened}
-use Rattle.taking.specs.Hands.{in_hand, HandSound, Able, OpenMeets}
+use Rattle.wording.specs.of_stages.Cursor.{rest_of}
+use Rattle.wording.specs.of_taking.declared.Hand.{Hand}
+use Rattle.wording.specs.of_taking.declared.Opened.{Opened}
+use Rattle.wording.specs.of_taking.Hands.{in_hand, HandSound, Able, OpenMeets}
 use Rattle.steps.proofs.Writing.{able, has_room, step_meets, quiet_meets}
 use Rattle.steps.proofs.step.do_words.Statement.{statement}
 use Rattle.steps.proofs.step.do_words.Tie as tie

@@ -3,9 +3,9 @@ use mathlib.Core.Path.{refl, subst}
 use lib.ListN.{length}
 use borrow.Author.Rules.{rules}
 use Rattle.moves.specs.Form.{room_of}
-use Rattle.taking.specs.declared.Hand.TheVariants.{Nothing}
-use Rattle.taking.specs.Meets.{MetMeets}
-use Rattle.taking.proofs.Stepping.{quiet_begun, quiet_opens}
+use Rattle.wording.specs.of_taking.declared.Hand.TheVariants.{Nothing}
+use Rattle.wording.specs.of_taking.Meets.{MetMeets}
+use Rattle.wording.proofs.of_taking.Stepping.{quiet_begun, quiet_opens}
 use Rattle.steps.proofs.Writing.{able, quiet_meets}
 use Rattle.steps.proofs.step.take_step.Statement.{statement}
 use Rattle.steps.proofs.step.take_step.Tie as tie

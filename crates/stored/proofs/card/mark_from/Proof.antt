@@ -6,29 +6,29 @@ use borrow.Author.Rules.{rules}
 use Rattle.stored.proofs.card.mark_from.Statement.{statement}
 use Rattle.stored.proofs.card.mark_from.Tie as tie
 
-abbrev invariant_loop : tie.invariant-loop
-invariant_loop page from p₀ t7 p = (from ≤ p) × (p ≤ length page)
+abbrev invariant_loop : tie.invariant-loop-p
+invariant_loop page from p₀ p = (from ≤ p) × (p ≤ length page)
 
-abbrev decreases_loop : tie.decreases-loop
-decreases_loop page from p₀ t7 p = length page - p
+abbrev decreases_loop : tie.decreases-loop-p
+decreases_loop page from p₀ p = length page - p
 
-returns : tie.Need-returns invariant_loop decreases_loop
+returns : tie.Need-returns-then-same invariant_loop decreases_loop
 returns c =
-    let l = c.before.before.before.before in
-    let t = l.before.loop-test.true in
-    let g = l.line_at_lem.ensures.1.onward t in (search rules, omega (arith, g), search rules)
+    let l = c in
+    let t = l.loop-p-test.true in
+    let g = l.line_at-line.ensures.1.onward t in (search rules, omega (arith, g), search rules)
 
-loop_less : tie.Need-loop-smaller invariant_loop decreases_loop
+loop_less : tie.Need-loop-p-smaller invariant_loop decreases_loop
 loop_less c =
-    let l = c.before.before.before.before in
-    let t = l.before.loop-test.true in
-    omega (arith, t, l.line_at_lem.ensures.1, l.line_at_lem.ensures.1.onward t)
+    let l = c in
+    let t = l.loop-p-test.true in
+    omega (arith, t, l.line_at-line.ensures.1, l.line_at-line.ensures.1.onward t)
 
-loop_again : tie.Need-loop-preserved invariant_loop decreases_loop
+loop_again : tie.Need-loop-p-preserved invariant_loop decreases_loop
 loop_again c =
-    let l = c.before.before.before.before in
-    let t = l.before.loop-test.true in
-    let g = l.line_at_lem.ensures.1.onward t in (omega (arith, g), search rules)
+    let l = c in
+    let t = l.loop-p-test.true in
+    let g = l.line_at-line.ensures.1.onward t in (omega (arith, g), search rules)
 
 pub mark_from_spec : {M : Type 1} → statement M
 mark_from_spec =
@@ -38,7 +38,6 @@ mark_from_spec =
     decreases_loop
     (λ c. search rules)
     (λ c κs. search rules)
-    (λ c. search rules)
     (λ c. search rules)
     (λ c. search rules)
     (λ c. search rules)

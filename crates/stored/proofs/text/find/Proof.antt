@@ -5,10 +5,10 @@ use lib.ListN.{length}
 use Rattle.stored.proofs.text.find.Statement.{statement}
 use Rattle.stored.proofs.text.find.Tie as tie
 
-abbrev invariant_loop : tie.invariant-loop
+abbrev invariant_loop : tie.invariant-loop-i
 invariant_loop s from b i₀ i = (from ≤ i) × (i ≤ length s)
 
-abbrev decreases_loop : tie.decreases-loop
+abbrev decreases_loop : tie.decreases-loop-i
 decreases_loop s from b i₀ i = length s - i
 
 pub find_spec : {M : Type 1} → statement M

@@ -8,23 +8,23 @@ use borrow.Author.Rules.{rules}
 use Rattle.stored.proofs.text.put.Statement.{statement}
 use Rattle.stored.proofs.text.put.Tie as tie
 
-abbrev invariant_loop : tie.invariant-loop
+abbrev invariant_loop : tie.invariant-loop-i
 invariant_loop path₀ at words to₀ i₀ path to i = (to ≤ length path) × (length path ≡ length path₀) × (i ≤ length words)
 
-abbrev decreases_loop : tie.decreases-loop
+abbrev decreases_loop : tie.decreases-loop-i
 decreases_loop path₀ at words to₀ i₀ path to i = length words - i
 
-returns : tie.Need-returns invariant_loop decreases_loop
-returns c = let l = c.before.before.loop in (l.invariant.0, sym (length-take-le l.to l.path l.invariant.0))
+returns : tie.Need-returns-then-to-path invariant_loop decreases_loop
+returns c = let l = c.loop-i in (l.invariant.0, sym (length-take-le l.to l.path l.invariant.0))
 
-loop_again : tie.Need-loop-preserved invariant_loop decreases_loop
+loop_again : tie.Need-loop-i-preserved invariant_loop decreases_loop
 loop_again c =
-    let l = c.before.before.before.loop in
-    let same = length-set l.path l.to (get_or c.before.before.before.before.args.words.now l.i 0) in
-    (omega (arith, same, c.before.if1.false), same ∙ l.invariant.1, search rules)
+    let l = c.loop-i in
+    let same = length-set l.path l.to (get_or c.args.words.now l.i 0) in
+    (omega (arith, same, c.if-to-path.false), same ∙ l.invariant.1, search rules)
 
-returns_2 : tie.Need-returns-2 invariant_loop decreases_loop
-returns_2 c = let l = c.before.loop in (l.invariant.0, sym (length-take-le l.to l.path l.invariant.0))
+returns_2 : tie.Need-returns invariant_loop decreases_loop
+returns_2 c = let l = c.loop-i in (l.invariant.0, sym (length-take-le l.to l.path l.invariant.0))
 
 pub put_spec : {M : Type 1} → statement M
 put_spec =

@@ -40,38 +40,38 @@ module _ (a b : List ℕ) (i : ℕ) where
   unfolding same_text
   alike h k e = rw (drop-cons a i 0, drop-cons b i 0, eq-eqb _ _ e, add-one i)
 
-abbrev invariant_loop : tie.invariant-loop
+abbrev invariant_loop : tie.invariant-loop-i
 invariant_loop a b i₀ i = (i ≤ length a) × (length a ≡ length b) × (same_text a b ≡ same_text (drop i a) (drop i b))
 
-abbrev decreases_loop : tie.decreases-loop
+abbrev decreases_loop : tie.decreases-loop-i
 decreases_loop a b i₀ i = length a - i
 
-returns : tie.Need-returns invariant_loop decreases_loop
-returns c = let a = c.before.args in sym (not_as_long a.a.now a.b.now c.if1.true)
+returns : tie.Need-returns-then-a-b invariant_loop decreases_loop
+returns c = let a = c.args in sym (not_as_long a.a.now a.b.now c.if-a-b.true)
 
-loop_holds : tie.Need-loop-init invariant_loop decreases_loop
-loop_holds c = (omega arith, c.if1.false, refl)
+loop_holds : tie.Need-loop-i-init invariant_loop decreases_loop
+loop_holds c = (omega arith, c.if-a-b.false, refl)
 
-returns_2 : tie.Need-returns-2 invariant_loop decreases_loop
+returns_2 : tie.Need-returns-then-a-i invariant_loop decreases_loop
 returns_2 c =
-    let l = c.before.before.before.before in
-    let a = l.before.before.args in
-    let i = l.loop.invariant in
-    sym (i.2 ∙ apart a.a.now a.b.now l.loop.i (omega arith) (omega (arith, i.1)) c.if2.true)
+    let l = c in
+    let a = l.args in
+    let i = l.loop-i.invariant in
+    sym (i.2 ∙ apart a.a.now a.b.now l.loop-i.i (omega arith) (omega (arith, i.1)) c.if-a-i.true)
 
-loop_again : tie.Need-loop-preserved invariant_loop decreases_loop
+loop_again : tie.Need-loop-i-preserved invariant_loop decreases_loop
 loop_again c =
-    let l = c.before.before.before.before in
-    let a = l.before.before.args in
-    let i = l.loop.invariant in
-    (omega arith, i.1, i.2 ∙ alike a.a.now a.b.now l.loop.i (omega arith) (omega (arith, i.1)) c.if2.false)
+    let l = c in
+    let a = l.args in
+    let i = l.loop-i.invariant in
+    (omega arith, i.1, i.2 ∙ alike a.a.now a.b.now l.loop-i.i (omega arith) (omega (arith, i.1)) c.if-a-i.false)
 
-returns_3 : tie.Need-returns-3 invariant_loop decreases_loop
+returns_3 : tie.Need-returns invariant_loop decreases_loop
 returns_3 c =
-    let l = c.before in
-    let a = l.before.before.args in
-    let i = l.loop.invariant in
-    sym (i.2 ∙ at_end a.a.now a.b.now l.loop.i (omega arith) (omega (arith, i.1)))
+    let l = c in
+    let a = l.args in
+    let i = l.loop-i.invariant in
+    sym (i.2 ∙ at_end a.a.now a.b.now l.loop-i.i (omega arith) (omega (arith, i.1)))
 
 pub same_spec : {M : Type 1} → statement M
 same_spec =

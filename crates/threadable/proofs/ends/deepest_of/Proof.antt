@@ -12,79 +12,79 @@ use Rattle.threadable.proofs.ends.deepest_of.Statement.{statement}
 use Rattle.threadable.proofs.ends.deepest_of.Tie as tie
 
 -- some cut is left
-going : (c : tie.Else1) → over c.before.before.args.c ≡ false
-going c = sym c.before.is-over.ensures ∙ c.if1.false
+going : (c : tie.Else-is_over) → over c.args.c ≡ false
+going c = sym c.is_over.ensures ∙ c.if-is_over.false
 
 -- what is known of the cuts that were matched
-even_fits : (c : tie.After-total) → let s = c.before.before.before.before.before.before in s.args.depth + c.total.result < 2 ^ 32
+even_fits : (c : tie.After-total) → let s = c in s.args.depth + c.total.result < 2 ^ 32
 even_fits c =
-    let m = c.before.before in
-    let s = m.before.before.before.before in
-    omega (arith, c.total.ensures, sound_of s.args.depth m.c.given.1 s.requires)
+    let m = c in
+    let s = m in
+    omega (arith, c.total.ensures, sound_of s.args.depth m.in-Even.is s.requires)
 
-by_depth_lem : (m : tie.After-c2) → Summed m.c2.given.0.0 × (0 < m.c2.given.0.0.left)
+by_depth_lem : (m : tie.In-ByDepth) → Summed m.in-ByDepth.f × (0 < m.in-ByDepth.f.left)
 by_depth_lem m =
-    let e = m.before.before in
-    let s = e.before.before in
-    let is = m.c2.given.1 in
-    (sound_of s.args.depth is s.requires, some_by_depth m.c2.given.0.0 (going_of s.args.depth is (going e)))
+    let e = m in
+    let s = e in
+    let is = m.in-ByDepth.is in
+    (sound_of s.args.depth is s.requires, some_by_depth m.in-ByDepth.f (going_of s.args.depth is (going e.before)))
 
-by_number : (m : tie.After-c3) → ((0 < m.c3.given.0.0.d3) × Summed m.c3.given.0.0) × (0 < m.c3.given.0.0.left)
+by_number : (m : tie.In-ByNumber) → ((0 < m.in-ByNumber.f.d3) × Summed m.in-ByNumber.f) × (0 < m.in-ByNumber.f.left)
 by_number m =
-    let e = m.before.before in
-    let s = e.before.before in
-    let is = m.c3.given.1 in
-    (sound_of s.args.depth is s.requires, some_by_number m.c3.given.0.0 (going_of s.args.depth is (going e)))
+    let e = m in
+    let s = e in
+    let is = m.in-ByNumber.is in
+    (sound_of s.args.depth is s.requires, some_by_number m.in-ByNumber.f (going_of s.args.depth is (going e.before)))
 
-returns : tie.Need-returns
+returns : tie.Need-returns-then-is_over
 returns c =
-    let o = c.before in
-    let s = o.before in
-    none_deepest s.args.depth s.args.c (rest_none s.args.depth s.args.c (sym o.is-over.ensures ∙ c.if1.true))
+    let o = c in
+    let s = o in
+    none_deepest s.args.depth s.args.c (rest_none s.args.depth s.args.c (sym o.is_over.ensures ∙ c.if-is_over.true))
 
-cast_result : tie.Need-overflow-cast-result
+cast_result : tie.Need-overflow_cast-result
 cast_result c = omega (arith, even_fits c)
 
-add_result : tie.Need-overflow-add-result
+add_result : tie.Need-overflow_add-result
 add_result c = omega (arith, even_fits c)
 
-next_requires : tie.Need-next-requires
+next_requires : tie.Need-next-handed-requires
 next_requires c κs =
-    let m = c.before.before in
-    let f = m.c2.given.0.0 in
-    let h = by_depth_lem m in
-    (only_last_sound f h.1 c.only-last.ensures h.0, by_depth_going f h.1 c.only-last.ensures)
+    let m = c in
+    let f = m.in-ByDepth.f in
+    let h = by_depth_lem m.before in
+    (only_last_sound f h.1 c.only_last-last.ensures h.0, by_depth_going f h.1 c.only_last-last.ensures)
 
-only_last_requires_2 : tie.Need-only-last-requires-2
-only_last_requires_2 c κs = let h = by_number c.before in (h.0.1, h.1)
+only_last_requires_2 : tie.Need-only_last-last-requires-in-ByNumber
+only_last_requires_2 c κs = let h = by_number c in (h.0.1, h.1)
 
-next_requires_2 : tie.Need-next-requires-2
+next_requires_2 : tie.Need-next-handed-requires-in-ByNumber
 next_requires_2 c κs =
-    let m = c.before.before in
-    let f = m.c3.given.0.0 in
-    let h = by_number m in
-    let is = c.only-last2.ensures in
+    let m = c in
+    let f = m.in-ByNumber.f in
+    let h = by_number m.before in
+    let is = c.only_last-last-in-ByNumber.ensures in
     ((same_number f h.1 is h.0.0, only_last_sound f h.1 is h.0.1), by_number_going f h.1 is)
 
-returns_2 : tie.Need-returns-2
+returns_2 : tie.Need-returns-in-Even
 returns_2 c =
-    let m = c.before.before in
-    let s = m.before.before.before.before in
-    even_deepest s.args.depth m.c.given.0.0 c.total.ensures ∙ ap (deepest s.args.depth) (sym m.c.given.1)
+    let m = c in
+    let s = m in
+    even_deepest s.args.depth m.in-Even.p c.total.ensures ∙ ap (deepest s.args.depth) (sym m.in-Even.is)
 
-returns_3 : tie.Need-returns-3
+returns_3 : tie.Need-returns-in-ByDepth
 returns_3 c =
-    let o = c.before in
-    let m = o.before.before in
-    let s = m.before.before.before.before in
-    by_depth_deepest m.c2.given.0.0 (by_depth_lem m).1 o.only-last.ensures s.args.depth c.next.ensures ∙ ap (deepest s.args.depth) (sym m.c2.given.1)
+    let o = c in
+    let m = o in
+    let s = m in
+    by_depth_deepest m.in-ByDepth.f (by_depth_lem m.before.before).1 o.only_last-last.ensures s.args.depth c.next-handed.ensures ∙ ap (deepest s.args.depth) (sym m.in-ByDepth.is)
 
-returns_4 : tie.Need-returns-4
+returns_4 : tie.Need-returns-in-ByNumber
 returns_4 c =
-    let o = c.before in
-    let m = o.before.before in
-    let s = m.before.before.before.before in
-    by_number_deepest m.c3.given.0.0 (by_number m).1 o.only-last2.ensures s.args.depth c.next2.ensures ∙ ap (deepest s.args.depth) (sym m.c3.given.1)
+    let o = c in
+    let m = o in
+    let s = m in
+    by_number_deepest m.in-ByNumber.f (by_number m.before.before).1 o.only_last-last-in-ByNumber.ensures s.args.depth c.next-handed-in-ByNumber.ensures ∙ ap (deepest s.args.depth) (sym m.in-ByNumber.is)
 
 pub deepest_of_spec : {M : Type 1} → statement M
 deepest_of_spec =
@@ -97,7 +97,7 @@ deepest_of_spec =
     cast_result
     add_result
     (λ c. search rules)
-    (λ c κs. by_depth_lem c.before)
+    (λ c κs. by_depth_lem c)
     next_requires
     (λ c. search rules)
     only_last_requires_2

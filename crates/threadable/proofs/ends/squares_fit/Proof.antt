@@ -10,11 +10,11 @@ use Rattle.threadable.proofs.ends.squares_fit.Tie as tie
 sum_held : (s : tie.Start) → s.args.f.sum < 2 ^ 64
 sum_held s = search rules
 
-returns : tie.Need-returns
-returns c = let s = c.before.before in (λ _. none_added s.args.f (sum_held s) c.if1.true, λ _. refl)
+returns : tie.Need-returns-then-f-eq0
+returns c = let s = c in (λ _. none_added s.args.f (sum_held s.before.before) c.if-f-eq0.true, λ _. refl)
 
-returns_2 : tie.Need-returns-2
-returns_2 c = let e = c.before.before.before in let s = e.before.before in fit_left s.args.f (sum_held s) e.if1.false
+returns_2 : tie.Need-returns
+returns_2 c = let e = c in let s = e in fit_left s.args.f (sum_held s.before.before.before.before.before) e.if-f-eq0.false
 
 pub squares_fit_spec : {M : Type 1} → statement M
 squares_fit_spec = tie.close (tie.spec returns (λ c. search rules) (λ c. search rules) (λ c. search rules) returns_2)
