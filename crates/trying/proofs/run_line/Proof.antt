@@ -28,7 +28,7 @@ returns_4 c =
     let o = r in
     let s = o in
     let a = s.args in
-    let d = carried a.table.now o.of_listmoves-set.result a.state _ (room_of (length a.buf.now)) a.count o.of_listmoves-set.ensures s.requires.2.state s.requires.2.count
+    let d = carried a.table.now o.of_listmoves-set.result a.before.state _ (room_of (length a.buf.now)) a.before.count o.of_listmoves-set.ensures s.requires.2.state s.requires.2.count
     (sym r.run_block-outcome.ensures.0 ∙ m.in-Done.is) in
     record { state = d.0; count = d.1 }
 
