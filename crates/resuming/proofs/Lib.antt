@@ -3,7 +3,7 @@ pub mod Lowering
 pub mod Remaining
 pub mod Turns
 pub mod InTurn
-pub mod Answers
+pub mod Answering
 
 -- ---- passed on to the crates above, which do not list the crate themselves
 pub use Rattle.interpreter.proofs as of_interpreter
