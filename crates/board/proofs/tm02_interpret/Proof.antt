@@ -6,27 +6,27 @@ use Rattle.board.proofs.Doors.{refused_here, ran_here, answer_fits}
 use Rattle.board.proofs.tm02_interpret.Statement.{statement}
 use Rattle.board.proofs.tm02_interpret.Tie as tie
 
-returns : tie.Need-returns
+returns : tie.Need-returns-then-unfit
 returns c =
-    let a = c.before.before.before.before.before.before.args in
-    refused_here a.tape.now a.table.now a.settings.now a.places.now a.buf.now (sym c.before.before.unfit.ensures ∙ c.before.if1.true) c.packed-answer.ensures.0
+    let a = c.args in
+    refused_here a.tape.now a.table.now a.settings.now a.places.now a.buf.now (sym c.unfit.ensures ∙ c.if-unfit.true) c.packed_answer.ensures.0
 
-settings_of_requires : tie.Need-settings-of-requires
-settings_of_requires c κs = all_there c.before.before.before.before.before.args.settings.now (sym c.before.unfit.ensures ∙ c.if1.false)
+settings_of_requires : tie.Need-settings_of-requires
+settings_of_requires c κs = all_there c.args.settings.now (sym c.unfit.ensures ∙ c.if-unfit.false)
 
-packed_answer_requires_2 : tie.Need-packed-answer-requires-2
+packed_answer_requires_2 : tie.Need-packed_answer-requires-2
 packed_answer_requires_2 c κs =
-    let a = c.before.before.before.before.before.before.before.before.before.before.before.before.before.args in
-    answer_fits a.tape.now a.table.now a.settings.now a.places.now a.buf.now _ c.before.before.before.before.interpret.ensures.0
+    let a = c.args in
+    answer_fits a.tape.now a.table.now a.settings.now a.places.now a.buf.now _ c.interpret-answer.ensures.0
 
-returns_2 : tie.Need-returns-2
+returns_2 : tie.Need-returns
 returns_2 c =
-    let run = c.before.before.before.before.before.interpret in
-    let o = c.before.before.before.before.before.before.before.before in
-    let e = o.before in
-    let a = c.before.before.before.before.before.before.before.before.before.before.before.before.before.before.args in
-    ran_here a.tape.now a.table.now a.settings.now a.places.now a.buf.now (sym e.before.unfit.ensures ∙ e.if1.false)
-    o.settings-of.ensures run.ensures.0 c.packed-answer2.ensures.0 run.ensures.1.0 run.ensures.1.1
+    let run = c.interpret-answer in
+    let o = c in
+    let e = o in
+    let a = c.args in
+    ran_here a.tape.now a.table.now a.settings.now a.places.now a.buf.now (sym e.unfit.ensures ∙ e.if-unfit.false)
+    o.settings_of.ensures run.ensures.0 c.packed_answer-2.ensures.0 run.ensures.1.0 run.ensures.1.1
 
 pub tm02_interpret_spec : {M : Type 1} → statement M
 tm02_interpret_spec =
