@@ -12,11 +12,9 @@ ghost use Rattle.board.specs.Door.{answer_at, places_at, buffer_at};
 ghost use Rattle.onemove.specs.of_packing.Packing.{Packed};
 ghost use Rattle.board.specs.Asked.{StartAtDoor, NextAtDoor};
 
-use alarmed::interpreter;
-pub use onemove::runwords;
-pub use onemove::packing;
-pub use onemove::inhand;
 use alarmed::answers::Answer;
+use alarmed::interpreter;
+pub use onemove::{inhand, packing, runwords};
 
 // Bits 0 to 15 of the answer are the records written, bits 16 to 31 the place on the tape, bits 32 to 39 the alarm, 0 where the list is complete. The bits above are 0.
 pub fn tm02_interpret(

@@ -4,9 +4,8 @@
 // The file `stdin` holds them: a name, LF, lines of settings (`=held 3` lends a table of three entries), the tape, and byte 30. `stdout` holds what 01 and 02 say of each.
 #![tactic(auto)]
 
-use comparing::listing;
-use comparing::board;
 use comparing::answers::Answer;
+use comparing::{board, listing};
 use std::io;
 use std::io::{Read, Write};
 use stored::compare::Verdict;
