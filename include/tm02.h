@@ -126,7 +126,7 @@ enum {
    pointer is null, not even where its length is 0; each points to as many elements as its length says; table and settings are aligned as int32_t and places as uint64_t; places and the buffer overlap none of the
    others; and nothing else writes to any of them, or reads places or the buffer, during the call.
 
-   The call takes no heap and has no data of its own. It took 16,760 bytes of stack ten calls deep, measured with the archive of this version: give it 32 KiB. A run ends after 20,000
+   The call takes no heap and has no data of its own. It took 16,760 bytes of stack ten calls deep, measured with the archive of an older compiler and not again since: give it 32 KiB. A run ends after 20,000
    blocks at the latest: do not call it from an interrupt. */
 uint64_t tm02_interpret(const uint8_t *tape, size_t tape_len, const int32_t *table, size_t table_len,
                         const int32_t *settings, size_t settings_len, uint64_t *places, size_t places_len,
@@ -171,7 +171,7 @@ uint32_t tm02_start(const uint8_t *tape, size_t tape_len, const int32_t *table, 
    The caller owes what C cannot check, as above: no pointer is null, each points to as many elements as its length says and is aligned as its type, state and record overlap none of the
    others, and nothing else writes to any of them, or reads state or record, during the call.
 
-   Neither call takes heap or has data of its own. tm02_start took 2,040 bytes of stack and tm02_next 4,920, however deep the calls of the tape are, measured with the archive of this version: give
+   Neither call takes heap or has data of its own. tm02_start took 2,040 bytes of stack and tm02_next 4,920, however deep the calls of the tape are, measured with the archive of an older compiler and not again since: give
    them 16 KiB, and the 128 bytes below.
    A start reads the whole tape, and an ask runs blocks until one has a record, which may be all the 20,000 of a run: do not call them from an interrupt. */
 uint64_t tm02_next(const uint8_t *tape, size_t tape_len, const int32_t *table, size_t table_len,

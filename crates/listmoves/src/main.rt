@@ -2,7 +2,8 @@
 // (01: "It prints mark, version and count, then kind, flags, X, Z and value for each record; on an alarm the word ALARM, number, place, count.")
 #![tactic(auto)]
 
-ghost use Rattle.std.specs.Prelude.{◌≡◌, ◌≤◌, length};
+ghost use Rattle.std.specs.Prelude.{◌≡◌, ◌≤◌, length, OnOk};
+ghost use Rattle.std.specs.Io.KnownBytes.{Appends};
 ghost use Rattle.octets.specs.Bytes.{laid};
 ghost use Rattle.listmoves.specs.Printed.{fresh_buffer, printed, text_size};
 
@@ -50,10 +51,17 @@ fn list_moves(tape: &[u8], out: &mut [u8]) -> usize
     listing::lines::put_listing(answer, &buf, out)
 }
 
+// Writes the listing of a tape, and nothing else.
+fn write_moves<W: Write>(tape: &[u8], out: &mut W) -> io::Result<()>
+    ensures { OnOk result (Appends (W.contents out.old) (W.contents out.new) (printed tape.now)) }
+{
+    let mut text = text_buffer();
+    let k = list_moves(tape, &mut text);
+    out.write_all(&text[..k])
+}
+
 fn main(rt: HostRuntime) -> io::Result<()> {
     let mut tape = Vec::new(rt.alloc());
     rt.reader().take(MOST_BYTES).read_to_end(&mut tape)?;
-    let mut text = text_buffer();
-    let k = list_moves(&tape, &mut text);
-    rt.stdout().write_all(&text[..k])
+    write_moves(&tape, &mut rt.stdout())
 }

@@ -6,23 +6,23 @@ use Rattle.answers.proofs.Finished.{finished}
 use Rattle.answers.proofs.finish.Statement.{statement}
 use Rattle.answers.proofs.finish.Tie as tie
 
-returns : tie.Need-returns
+returns : tie.Need-returns-in-Ended
 unfolding answer_by
 returns c =
-    let a = c.before.before.before.before.before.before.before.args in
-    finished a.count c.before.before.before.before.enum_told.given.1 refl a.buf.now c.before.before.put-header.ensures
+    let a = c.args in
+    finished a.count c.in-Ended.is refl a.buf.now c.put_header.ensures
 
-returns_2 : tie.Need-returns-2
+returns_2 : tie.Need-returns-in-Stopped
 unfolding answer_by
 returns_2 c =
-    let a = c.before.before.before.before.args in
-    finished a.count c.before.ending.given.1 refl a.buf.now refl
+    let a = c.args in
+    finished a.count c.in-Stopped.is refl a.buf.now refl
 
-returns_3 : tie.Need-returns-3
+returns_3 : tie.Need-returns-in-Returned
 unfolding answer_by
 returns_3 c =
-    let a = c.before.before.before.args in
-    finished a.count c.enum-told2.given.1 refl a.buf.now refl
+    let a = c.args in
+    finished a.count c.in-Returned.is refl a.buf.now refl
 
 pub finish_spec : {M : Type 1} → statement M
 finish_spec =

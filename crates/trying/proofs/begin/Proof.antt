@@ -15,8 +15,8 @@ use Rattle.trying.proofs.begin.Tie as tie
 returns : tie.Need-returns
 unfolding in_table
 returns c =
-    let set = c.before.before.before.of-listmoves.ensures in
-    let same = c.at-start.ensures ∙ ap (λ (s : Settings). at_start (to_z w32 (of_z w32 s.x)) (to_z w32 (of_z w32 s.z))) set in
+    let set = c.of_listmoves-set.ensures in
+    let same = c.at_start.ensures ∙ ap (λ (s : Settings). at_start (to_z w32 (of_z w32 s.x)) (to_z w32 (of_z w32 s.z))) set in
     (subst Sound (sym same) (start_sound listmoves.x listmoves.z refl refl), refl)
 
 pub begin_spec : {M : Type 1} → statement M

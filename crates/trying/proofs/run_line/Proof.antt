@@ -11,25 +11,25 @@ use Rattle.trying.proofs.Carrying.{range_right, carried}
 use Rattle.trying.proofs.run_line.Statement.{statement}
 use Rattle.trying.proofs.run_line.Tie as tie
 
-run_block_requires : tie.Need-run-block-requires
+run_block_requires : tie.Need-run_block-outcome-requires
 run_block_requires c κs =
-    let l = c.before.before.before.before.before.before.before.before.before in
-    let s = l.before.before.before.before in
-    let w = subst (λ (q : ReadLine). Worded q.block) (sym l.read-line.ensures) (worded s.args.line.now) in
-    (s.requires.0, subst InRange (sym c.before.before.of-listmoves.ensures) range_right, s.requires.2.state, w, s.requires.1, s.requires.2.count)
+    let l = c in
+    let s = l in
+    let w = subst (λ (q : ReadLine). Worded q.block) (sym l.read_line-read.ensures) (worded s.args.line.now) in
+    (s.requires.0, subst InRange (sym c.of_listmoves-set.ensures) range_right, s.requires.2.state, w, s.requires.1, s.requires.2.count)
 
-returns_3 : tie.Need-returns-3
-returns_3 c = let s = c.before.before.before.before.before.before.before.before.before.before.before.before.before.before.before.before.before.before.before in record { state = s.requires.2.state; count = s.requires.2.count }
+returns_3 : tie.Need-returns-in-Refused
+returns_3 c = let s = c in record { state = s.requires.2.state; count = s.requires.2.count }
 
-returns_4 : tie.Need-returns-4
+returns_4 : tie.Need-returns-in-Done
 returns_4 c =
-    let m = c.before.before.before in
-    let r = m.before.before.before.before in
-    let o = r.before.before.before in
-    let s = o.before.before.before.before.before.before.before.before.before.before.before in
+    let m = c in
+    let r = m in
+    let o = r in
+    let s = o in
     let a = s.args in
-    let d = carried a.table.now o.of-listmoves.result a.before.state _ (room_of (length a.buf.now)) a.before.count o.of-listmoves.ensures s.requires.2.state s.requires.2.count
-    (sym r.run-block.ensures.0 ∙ m.outcome2.given.1) in
+    let d = carried a.table.now o.of_listmoves-set.result a.before.state _ (room_of (length a.buf.now)) a.before.count o.of_listmoves-set.ensures s.requires.2.state s.requires.2.count
+    (sym r.run_block-outcome.ensures.0 ∙ m.in-Done.is) in
     record { state = d.0; count = d.1 }
 
 pub run_line_spec : {M : Type 1} → statement M

@@ -12,45 +12,45 @@ use Rattle.trying.proofs.Carrying.{table_right}
 use Rattle.trying.proofs.run_lines.Statement.{statement}
 use Rattle.trying.proofs.run_lines.Tie as tie
 
-abbrev invariant_loop : tie.invariant-loop
+abbrev invariant_loop : tie.invariant-loop-p
 invariant_loop lines buf₀ table tried₀ p₀ buf tried p = (p ≤ length lines) × (length buf ≡ length buf₀) × Carried (room_of (length buf₀)) tried
 
-abbrev decreases_loop : tie.decreases-loop
+abbrev decreases_loop : tie.decreases-loop-p
 decreases_loop lines buf₀ table tried₀ p₀ buf tried p = length lines - p
 
-run_line_requires : tie.Need-run-line-requires invariant_loop decreases_loop
+run_line_requires : tie.Need-run_line-came-requires invariant_loop decreases_loop
 run_line_requires c κs =
-    let l = c.before.before.before.before.before in
-    let s = l.before.before.before.before.before in
-    let same = sym l.loop.invariant.1 in
-    (subst Table (sym l.before.before.no-offsets.ensures) table_right, omega arith, subst (λ (n : ℕ). Carried (room_of n) l.loop.tried) same l.loop.invariant.2)
+    let l = c in
+    let s = l in
+    let same = sym l.loop-p.invariant.1 in
+    (subst Table (sym l.no_offsets-table.ensures) table_right, omega arith, subst (λ (n : ℕ). Carried (room_of n) l.loop-p.tried) same l.loop-p.invariant.2)
 
 -- what a line that was run leaves
-module _ (c : tie.After-came invariant_loop decreases_loop) where
-  ran : Carried (room_of (length c.before.before.before.before.before.before.before.before.before.before.before.before.before.before.before.args.buf.now)) c.came.given.0.0
+module _ (c : tie.In-Ran invariant_loop decreases_loop) where
+  ran : Carried (room_of (length c.args.buf.now)) c.in-Ran.t
   ran =
-      let r = c.before.before.before.before in
-      let l = r.before.before.before.before.before.before in
-      let came = subst (CameWith (room_of (length l.loop.buf))) c.came.given.1 r.run-line.ensures in
-      subst (λ (n : ℕ). Carried (room_of n) c.came.given.0.0) l.loop.invariant.1 came
+      let r = c in
+      let l = r in
+      let came = subst (CameWith (room_of (length l.loop-p.buf))) c.in-Ran.is r.run_line-came.ensures in
+      subst (λ (n : ℕ). Carried (room_of n) c.in-Ran.t) l.loop-p.invariant.1 came
 
-returns_2 : tie.Need-returns-2 invariant_loop decreases_loop
-returns_2 c = ran c.before.before.before
+returns_2 : tie.Need-returns-then-t-ne0 invariant_loop decreases_loop
+returns_2 c = ran c.before.before
 
-loop_less : tie.Need-loop-smaller invariant_loop decreases_loop
+loop_less : tie.Need-loop-p-smaller invariant_loop decreases_loop
 loop_less c =
-    let l = c.before.before.before.before.before.before.before.before.before.before.before in
-    let t = l.before.loop-test.true in
-    omega (arith, t, l.line_at_lem.ensures.1, l.line_at_lem.ensures.1.onward t)
+    let l = c in
+    let t = l.loop-p-test.true in
+    omega (arith, t, l.line_at-line.ensures.1, l.line_at-line.ensures.1.onward t)
 
-loop_again : tie.Need-loop-preserved invariant_loop decreases_loop
+loop_again : tie.Need-loop-p-preserved invariant_loop decreases_loop
 loop_again c =
-    let r = c.before.before.before.before.before.before.before in
-    let l = r.before.before.before.before in
-    (l.line_at_lem.ensures.1.ends, r.run-line.auto.1.1.1.0 ∙ l.before.before.loop.invariant.1, ran c.before.before.before)
+    let r = c in
+    let l = r in
+    (l.line_at-line.ensures.1.ends, r.run_line-came.auto.buf ∙ l.loop-p.invariant.1, ran c.before.before)
 
-returns_3 : tie.Need-returns-3 invariant_loop decreases_loop
-returns_3 c = c.before.loop.invariant.2
+returns_3 : tie.Need-returns invariant_loop decreases_loop
+returns_3 c = c.loop-p.invariant.2
 
 pub run_lines_spec : {M : Type 1} → statement M
 run_lines_spec =

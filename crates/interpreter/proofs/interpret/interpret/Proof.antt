@@ -10,47 +10,47 @@ use Rattle.interpreter.proofs.interpret.interpret.Statement.{statement}
 use Rattle.interpreter.proofs.interpret.interpret.Tie as tie
 
 -- the settings are right
-fine : (c : tie.Else1) → let a = c.before.before.before.before.before.args in settings_wrong a.table.now a.set ≡ false
-fine c = sym c.before.settings-wrong.ensures ∙ c.if1.false
+fine : (c : tie.Else-settings_wrong) → let a = c.args in settings_wrong a.table.now a.set ≡ false
+fine c = sym c.settings_wrong.ensures ∙ c.if-settings_wrong.false
 
-returns : tie.Need-returns
+returns : tie.Need-returns-then-settings_wrong
 returns c =
-    let a = c.before.before.before.before.before.args in
-    let h = sym c.before.settings-wrong.ensures ∙ c.if1.true in
+    let a = c.args in
+    let h = sym c.settings_wrong.ensures ∙ c.if-settings_wrong.true in
     let g = wrong_settings a.tape.now a.table.now a.set a.places.now a.buf.now h in
     (g.0, (wrong_kept a.tape.now a.table.now a.set a.places.now a.buf.now h, g.1))
 
-returns_2 : tie.Need-returns-2
+returns_2 : tie.Need-returns-then-tape-gt-LONGEST_TAPE
 returns_2 c =
-    let a = c.before.before.before.before.before.before.args in
-    let g = long_tape a.tape.now a.table.now a.set a.places.now a.buf.now (fine c.before) c.if2.true in
-    (g.0, (long_kept a.tape.now a.table.now a.set a.places.now a.buf.now (fine c.before) c.if2.true, g.1))
+    let a = c.args in
+    let g = long_tape a.tape.now a.table.now a.set a.places.now a.buf.now (fine c.before) c.if-tape-gt-LONGEST_TAPE.true in
+    (g.0, (long_kept a.tape.now a.table.now a.set a.places.now a.buf.now (fine c.before) c.if-tape-gt-LONGEST_TAPE.true, g.1))
 
-returns_3 : tie.Need-returns-3
+returns_3 : tie.Need-returns-then-buf-lt-HEADER_SIZE
 returns_3 c =
-    let a = c.before.before.before.before.before.before.before.args in
-    let g = short_buffer a.tape.now a.table.now a.set a.places.now a.buf.now (fine c.before.before) c.before.if2.false c.if3.true in
-    (g.0, (short_kept a.tape.now a.table.now a.set a.places.now a.buf.now (fine c.before.before) c.before.if2.false c.if3.true, g.1))
+    let a = c.args in
+    let g = short_buffer a.tape.now a.table.now a.set a.places.now a.buf.now (fine c.before.before) c.if-tape-gt-LONGEST_TAPE.false c.if-buf-lt-HEADER_SIZE.true in
+    (g.0, (short_kept a.tape.now a.table.now a.set a.places.now a.buf.now (fine c.before.before) c.if-tape-gt-LONGEST_TAPE.false c.if-buf-lt-HEADER_SIZE.true, g.1))
 
-run_read_requires : tie.Need-run-read-requires
+run_read_requires : tie.Need-run_read-requires
 run_read_requires c κs =
-    let t = c.before.before.before.before in
-    let e = t.before.before in
-    let a = e.before.before.before.before.before.before.before.args in (
-      read_known a.tape.now a.table.now a.set a.places.now a.buf.now (fine e.before.before) e.before.if2.false t.read-tape.ensures.0.is t.read-tape.ensures.1,
-      right a.table.now a.set (fine e.before.before),
-      e.if3.false,
+    let t = c in
+    let e = t in
+    let a = e.args in (
+      read_known a.tape.now a.table.now a.set a.places.now a.buf.now (fine e.before.before.before.before.before.before.before) e.if-tape-gt-LONGEST_TAPE.false t.read_tape-told.ensures.0.is t.read_tape-told.ensures.1,
+      right a.table.now a.set (fine e.before.before.before.before.before.before.before),
+      e.if-buf-lt-HEADER_SIZE.false,
     )
 
-returns_4 : tie.Need-returns-4
+returns_4 : tie.Need-returns
 returns_4 c =
-    let r = c.before.before in
-    let t = r.before.before.before.before.before in
-    let e = t.before.before in
-    let a = e.before.before.before.before.before.before.before.args in
-    let g = goes_on a.tape.now a.table.now a.set a.places.now a.buf.now (fine e.before.before) e.before.if2.false e.if3.false
-    (ap (λ (x : TapeRead). x.read) t.read-tape.ensures.0.is) r.run-read.ensures in
-    (g.0, (read_filled a.tape.now a.table.now a.set a.places.now a.buf.now (fine e.before.before) e.before.if2.false e.if3.false t.read-tape.ensures.1, g.1))
+    let r = c in
+    let t = r in
+    let e = t in
+    let a = e.args in
+    let g = goes_on a.tape.now a.table.now a.set a.places.now a.buf.now (fine e.before.before.before.before.before.before.before.before.before.before) e.if-tape-gt-LONGEST_TAPE.false e.if-buf-lt-HEADER_SIZE.false
+    (ap (λ (x : TapeRead). x.read) t.read_tape-told.ensures.0.is) r.run_read.ensures in
+    (g.0, (read_filled a.tape.now a.table.now a.set a.places.now a.buf.now (fine e.before.before.before.before.before.before.before.before.before.before) e.if-tape-gt-LONGEST_TAPE.false e.if-buf-lt-HEADER_SIZE.false t.read_tape-told.ensures.1, g.1))
 
 pub interpret_spec : {M : Type 1} → statement M
 interpret_spec =

@@ -4,39 +4,39 @@ use Rattle.interpreter.proofs.Whole.{main_found_lem, main_missing, main_begins, 
 use Rattle.interpreter.proofs.interpret.run_main.Statement.{statement}
 use Rattle.interpreter.proofs.interpret.run_main.Tie as tie
 
-returns : tie.Need-returns
+returns : tie.Need-returns-in_default
 returns c =
-    let s = c.before.before.before.before.before.before in
+    let s = c in
     let a = s.args in
-    main_missing a.tape.now a.table.now a.set a.first a.buf.now (main_found_lem a.tape.now a.table.now a.set a.first a.buf.now s.requires.0 c.before.before.find-program.ensures) c.enum_told.given.1
+    main_missing a.tape.now a.table.now a.set a.first a.buf.now (main_found_lem a.tape.now a.table.now a.set a.first a.buf.now s.requires.0 c.find_program-found.ensures) c.in_default.is
 
-find_program_requires : tie.Need-find-program-requires
-find_program_requires c κs = c.before.before.before.requires.0.filled
+find_program_requires : tie.Need-find_program-found-requires
+find_program_requires c κs = c.requires.0.filled
 
-run_program_requires : tie.Need-run-program-requires
+run_program_requires : tie.Need-run_program-o-requires
 run_program_requires c κs =
-    let f = c.before.before.before in
-    let s = f.before.before.before.before.before.before in
+    let f = c in
+    let s = f in
     let a = s.args in
-    main_begins a.tape.now a.table.now a.set a.first a.buf.now s.requires.0 s.requires.1 s.requires.2 (main_found_lem a.tape.now a.table.now a.set a.first a.buf.now s.requires.0 f.before.before.find-program.ensures) f.found.given.0.0 f.found.given.1 c.start_of.ensures
+    main_begins a.tape.now a.table.now a.set a.first a.buf.now s.requires.0 s.requires.1 s.requires.2 (main_found_lem a.tape.now a.table.now a.set a.first a.buf.now s.requires.0 f.find_program-found.ensures) f.in-At.line f.in-At.is c.start_of.ensures
 
 finish_requires : tie.Need-finish-requires
 finish_requires c κs =
-    let r = c.before.before.before.before in
-    let f = r.before.before.before.before in
-    let s = f.before.before.before.before.before.before in
+    let r = c in
+    let f = r in
+    let s = f in
     let a = s.args in
-    finish_needs a.tape.now a.table.now a.set a.first a.buf.now s.requires.0 s.requires.1 s.requires.2 f.found.given.0.0 r.before.start_of.ensures r.run-program.ensures
+    finish_needs a.tape.now a.table.now a.set a.first a.buf.now s.requires.0 s.requires.1 s.requires.2 f.in-At.line r.start_of.ensures r.run_program-o.ensures
 
-returns_2 : tie.Need-returns-2
+returns_2 : tie.Need-returns
 returns_2 c =
-    let e = c.before.before in
-    let r = e.before.before.before.before.before in
-    let f = r.before.before.before.before in
-    let s = f.before.before.before.before.before.before in
+    let e = c in
+    let r = e in
+    let f = r in
+    let s = f in
     let a = s.args in
-    main_ran a.tape.now a.table.now a.set a.first a.buf.now s.requires.0 s.requires.1 s.requires.2 f.found.given.0.0 r.before.start_of.ensures r.run-program.ensures
-    (main_found_lem a.tape.now a.table.now a.set a.first a.buf.now s.requires.0 f.before.before.find-program.ensures) f.found.given.1 e.finish.ensures.0 e.finish.ensures.1
+    main_ran a.tape.now a.table.now a.set a.first a.buf.now s.requires.0 s.requires.1 s.requires.2 f.in-At.line r.start_of.ensures r.run_program-o.ensures
+    (main_found_lem a.tape.now a.table.now a.set a.first a.buf.now s.requires.0 f.find_program-found.ensures) f.in-At.is e.finish.ensures.0 e.finish.ensures.1
 
 pub run_main_spec : {M : Type 1} → statement M
 run_main_spec =

@@ -10,32 +10,31 @@ use Rattle.listing.proofs.lines.put_head.Tie as tie
 small : (c : tie.Start) → c.args.count < 2 ^ 64
 small c = omega arith
 
-put_number_requires : tie.Need-put-number-requires
+put_number_requires : tie.Need-put_number-number-requires
 put_number_requires c κs =
-    let p = c.before.before.before in
-    let s = p.before.before.before.before in
-    version_room s.args.out.now s.args.count (small s) s.requires p.put-text.ensures
+    let p = c in
+    let s = p in
+    version_room s.args.out.now s.args.count (small s.before.before.before.before.before.before.before.before) s.requires p.put_text-version.ensures
 
-put_number_requires_2 : tie.Need-put-number-requires-2
+put_number_requires_2 : tie.Need-put_number-requires
 put_number_requires_2 c κs =
-    let q = c.before.before.before in
-    let p = q.before.before.before.before in
-    let s = p.before.before.before.before in
-    count_room s.args.out.now s.args.count (small s) s.requires p.put-text.ensures q.put-number.ensures
+    let q = c in
+    let p = q in
+    let s = p in
+    count_room s.args.out.now s.args.count (small s.before.before.before.before.before.before.before.before.before.before.before.before) s.requires p.put_text-version.ensures q.put_number-number.ensures
 
 returns : tie.Need-returns
 returns c =
-    let r = c.before.before in
-    let q = r.before.before.before.before in
-    let p = q.before.before.before.before in
-    let s = p.before.before.before.before in
-    head_made s.args.out.now s.args.count (small s) s.requires p.put-text.ensures q.put-number.ensures r.put-number2.ensures
+    let r = c in
+    let q = r in
+    let p = q in
+    let s = p in
+    head_made s.args.out.now s.args.count (small s.before.before.before.before.before.before.before.before.before.before.before.before.before.before.before) s.requires p.put_text-version.ensures q.put_number-number.ensures r.put_number.ensures
 
 pub put_head_spec : {M : Type 1} → statement M
 put_head_spec =
     tie.close
     (tie.spec
-    (λ c. search rules)
     (λ c κs. search rules)
     (λ c. search rules)
     put_number_requires

@@ -4,11 +4,11 @@ use Rattle.listing.proofs.Made.{by_answer}
 use Rattle.listing.proofs.lines.put_listing.Statement.{statement}
 use Rattle.listing.proofs.lines.put_listing.Tie as tie
 
-returns : tie.Need-returns
-returns c = let p = c.before.before in let s = p.before.before.before.before.before.before.before in by_answer s.args.out.now s.args.list.now p.before.before.before.answer.given.1 p.put-list.ensures
+returns : tie.Need-returns-in-Complete
+returns c = let p = c in let s = p in by_answer s.args.out.now s.args.list.now p.in-Complete.is p.put_list.ensures
 
-returns_2 : tie.Need-returns-2
-returns_2 c = let p = c.before.before in let s = p.before.before.before.before.before.before.before in by_answer s.args.out.now s.args.list.now p.before.before.before.answer2.given.1 p.put-alarm.ensures
+returns_2 : tie.Need-returns-in-Alarm
+returns_2 c = let p = c in let s = p in by_answer s.args.out.now s.args.list.now p.in-Alarm.is p.put_alarm.ensures
 
 pub put_listing_spec : {M : Type 1} → statement M
 put_listing_spec =
