@@ -1,4 +1,4 @@
-// THE BOARD'S DOORS: what the control's firmware and the axis board, which are written in C, call. include/tm02.h declares them for C.
+// THE BOARD'S DOORS: what the control's firmware and the axis board, which are written in C, call: crates/board_c hands them to C, and include/tm02.h declares them there.
 // `tm02_interpret` runs a tape; `tm02_start` and `tm02_next` run it one move at a time, with no list; `tm02_read` reads a record of a list back, and `tm02_judge` with `tm02_read_judged` a whole list in
 // one pass.
 // Settings come as eleven numbers and the answer goes as one. No caller has to check a number first: settings that are not eleven numbers, or of which one is out of range, are alarm 1.
@@ -12,15 +12,12 @@ ghost use Rattle.board.specs.Door.{answer_at, places_at, buffer_at};
 ghost use Rattle.onemove.specs.of_packing.Packing.{Packed};
 ghost use Rattle.board.specs.Asked.{StartAtDoor, NextAtDoor};
 
-use alarmed::interpreter;
-pub use onemove::runwords;
-pub use onemove::packing;
-pub use onemove::inhand;
 use alarmed::answers::Answer;
+use alarmed::interpreter;
+pub use onemove::{inhand, packing, runwords};
 
 // Bits 0 to 15 of the answer are the records written, bits 16 to 31 the place on the tape, bits 32 to 39 the alarm, 0 where the list is complete. The bits above are 0.
-#[unsafe(no_mangle)]
-pub extern "C" fn tm02_interpret(
+pub fn tm02_interpret(
     tape: &[u8],
     table: &[i32],
     settings: &[i32],
@@ -48,8 +45,7 @@ pub extern "C" fn tm02_interpret(
 pub const NOT_STARTED: u32 = 1;
 
 // Starts a run that is asked for one move at a time, in the lent words, whatever they hold. Answers 0, or 1 where they are not as many as a state has.
-#[unsafe(no_mangle)]
-pub extern "C" fn tm02_start(
+pub fn tm02_start(
     tape: &[u8],
     table: &[i32],
     settings: &[i32],
@@ -67,8 +63,7 @@ pub extern "C" fn tm02_start(
 // The next record of a run that was started in the words, laid in 20 bytes at the front of the lent ones, or its answer, which is repeated from then on. Bits 0 to 39 are the answer as `tm02_interpret`
 // gives it; bit 40 is set where there is one, and bit 41 where nothing was done: the words cannot be asked with what is lent, or the bytes have no room for a record. All else is lent as it was at the start, and as the
 // start left it.
-#[unsafe(no_mangle)]
-pub extern "C" fn tm02_next(
+pub fn tm02_next(
     tape: &[u8],
     table: &[i32],
     settings: &[i32],
@@ -83,8 +78,7 @@ pub extern "C" fn tm02_next(
 }
 
 // Record number k, from 0, of a list, as seven numbers: kind, flags, X, Z, value, program, block. Answers 0, or why the list or k is refused, and then the lent numbers are as they came.
-#[unsafe(no_mangle)]
-pub extern "C" fn tm02_read(list: &[u8], k: usize, numbers: &mut [i64]) -> u32
+pub fn tm02_read(list: &[u8], k: usize, numbers: &mut [i64]) -> u32
     ensures result { result ≡ answer_of (read_of list.now k) (length numbers.old) }
     ensures lent { numbers.new ≡ numbers_after (read_of list.now k) numbers.old }
 {
@@ -92,16 +86,14 @@ pub extern "C" fn tm02_read(list: &[u8], k: usize, numbers: &mut [i64]) -> u32
 }
 
 // Whether a list is refused: 0, or why.
-#[unsafe(no_mangle)]
-pub extern "C" fn tm02_judge(list: &[u8]) -> u32
+pub fn tm02_judge(list: &[u8]) -> u32
     ensures { result ≡ refusal_of (judged list.now) }
 {
     numbered::judge(list)
 }
 
 // As `tm02_read`, of a list that `tm02_judge` has not refused, and which is not judged again. Of other bytes it gives what stands there.
-#[unsafe(no_mangle)]
-pub extern "C" fn tm02_read_judged(list: &[u8], k: usize, numbers: &mut [i64]) -> u32
+pub fn tm02_read_judged(list: &[u8], k: usize, numbers: &mut [i64]) -> u32
     ensures result { result ≡ answer_of (read_judged list.now k) (length numbers.old) }
     ensures lent { numbers.new ≡ numbers_after (read_judged list.now k) numbers.old }
 {

@@ -9,9 +9,12 @@
 
 mod files;
 
+ghost use Rattle.std.specs.Prelude.{IfOk};
 ghost use Rattle.stored.specs.Texts.{FromOne};
 
-use libc::{STDIN_FILENO, STDOUT_FILENO};
+use std::io::Write;
+use std::rt::{Env, Files};
+use std::{env, io};
 use stored::compare::Verdict;
 
 // What stands between a tape and its listing, and what ends a case.
@@ -19,67 +22,68 @@ const BEHIND_TAPE: u8 = 29;
 
 const BEHIND_LISTING: u8 = 30;
 
-fn show(words: &[u8]) {
-    io::write_all(STDOUT_FILENO, words);
-}
+// The longest name of an example.
+const LONGEST_NAME: usize = 40;
 
-fn show_verdict(verdict: Verdict) {
+// The most bytes that are read of standard input and of each file: one more than a tape may have.
+const MOST_BYTES: usize = 65_536;
+
+// The most bytes that are read of an example's settings.
+const MOST_SETTINGS: usize = 4_096;
+
+fn show_verdict<W: Write>(out: &mut W, verdict: Verdict) -> io::Result<()> {
     match verdict {
-        Verdict::Agrees => show(b" agrees\n"),
-        Verdict::Differs(line) => {
-            show(b" DIFFERS at line ");
-            io::print_decimal(STDOUT_FILENO, line as u64);
-            show(b"\n");
-        }
-        Verdict::Unread => show(b" HAS NO SETTINGS\n"),
+        Verdict::Agrees => writeln!(out, " agrees"),
+        Verdict::Differs(line) => writeln!(out, " DIFFERS at line {line}"),
+        Verdict::Unread => writeln!(out, " HAS NO SETTINGS"),
     }
 }
 
 // Takes a case apart, and writes its name and what came of it.
-fn show_case(case: &[u8]) {
+fn show_case<W: Write>(out: &mut W, case: &[u8]) -> io::Result<()> {
     let first = tape::line::line_at(case, 0);
     let name = first.stop;
     let settings = first.after;
-    show(&case[0..name]);
+    out.write_all(&case[0..name])?;
     let behind = stored::text::find(case, settings, BEHIND_TAPE);
     if behind >= case.len() {
-        show(b" HAS NO LISTING\n");
-        return;
+        return writeln!(out, " HAS NO LISTING");
     }
     let want = behind + 1;
-    show_verdict(comparing::judge_case(&case[0..behind], settings, &case[want..]));
+    let verdict = comparing::judge_case(&case[0..behind], settings, &case[want..]);
+    show_verdict(out, verdict)
 }
 
 // One case after the other.
-fn show_cases(all: &[u8]) {
+fn show_cases<W: Write>(out: &mut W, all: &[u8]) -> io::Result<()> {
     let mut p = 0;
     while p < all.len() {
         let end = stored::text::find(all, p, BEHIND_LISTING);
-        show_case(&all[p..end]);
+        show_case(out, &all[p..end])?;
         if end >= all.len() {
-            return;
+            return Ok(());
         }
         p = end + 1;
     }
+    Ok(())
 }
 
 // The cases of a file of data/.
-fn show_file(name: &[u8]) {
-    let mut cases = io::large_buffer();
-    let n = files::read_file(name, &mut cases);
-    show_cases(&cases[..n]);
+fn show_file<R: Files + AllocGlobal, W: Write>(rt: &R, out: &mut W, name: &str) -> io::Result<()> {
+    let cases = files::read_file(rt, name, MOST_BYTES)?;
+    show_cases(out, &cases)
 }
 
 // Writes what a tape of the card must give, and what came of it.
-fn show_alarm(case: &[u8], want: &[u8]) {
+fn show_alarm<W: Write>(out: &mut W, case: &[u8], want: &[u8]) -> io::Result<()> {
     let end = stored::text::find(want, 0, b'\n');
-    show(b"card ");
-    show(&want[0..end]);
-    show_verdict(comparing::judge_case(case, 0, want));
+    out.write_all(b"card ")?;
+    out.write_all(&want[0..end])?;
+    show_verdict(out, comparing::judge_case(case, 0, want))
 }
 
 // One pair after the other, until none is left.
-fn show_card(page: &[u8]) {
+fn show_card<W: Write>(out: &mut W, page: &[u8]) -> io::Result<()> {
     let mut p = 0;
     while p < page.len() {
         let case = stored::card::fence_from(page, p);
@@ -87,80 +91,90 @@ fn show_card(page: &[u8]) {
         let want = stored::card::fence_from(page, next);
         let on = want.after;
         if want.stop >= page.len() {
-            return;
+            return Ok(());
         }
         if on <= p {
-            return;
+            return Ok(());
         }
         let from = case.from;
         let stop = case.stop;
         let first = want.from;
         let end = want.stop;
-        show_alarm(&page[from..stop], &page[first..end]);
+        show_alarm(out, &page[from..stop], &page[first..end])?;
         p = on;
     }
+    Ok(())
 }
 
 // Alarm 2 has no tape on the card: a tape of 65,536 zero bytes is run.
-fn show_long() {
-    let tape = io::large_buffer();
-    show(b"card ALARM 2 0 0");
-    show_verdict(comparing::judge(&tape, stored::given::usual(), b"ALARM 2 0 0\n"));
+fn show_long<W: Write>(out: &mut W) -> io::Result<()> {
+    let tape = [0u8; MOST_BYTES];
+    out.write_all(b"card ALARM 2 0 0")?;
+    let verdict = comparing::judge(&tape, stored::given::usual(), b"ALARM 2 0 0\n");
+    show_verdict(out, verdict)
 }
 
 // Judges an example's tape, with what its case gives, by its listing.
-fn judge_example(name: &[u8], given: [i32; stored::given::ALL]) -> Verdict
-    ensures { FromOne result }
+fn judge_example<R: Files + AllocGlobal>(
+    rt: &R,
+    name: &str,
+    given: [i32; stored::given::ALL],
+) -> io::Result<Verdict>
+    ensures { IfOk result FromOne }
 {
-    let mut tape = io::large_buffer();
-    let t = files::read_part(name, b".tape", &mut tape);
-    let mut want = io::large_buffer();
-    let w = files::read_part(name, b".list", &mut want);
-    comparing::judge(&tape[..t], given, &want[..w])
+    let tape = files::read_part(rt, name, ".tape", MOST_BYTES)?;
+    let want = files::read_part(rt, name, ".list", MOST_BYTES)?;
+    Ok(comparing::judge(&tape, given, &want))
 }
 
-fn show_example(name: &[u8]) {
-    show(b"example ");
-    show(name);
-    let mut settings = io::buffer();
-    let s = files::read_part(name, b".set", &mut settings);
+fn show_example<R: Files + AllocGlobal, W: Write>(
+    rt: &R,
+    out: &mut W,
+    name: &str,
+) -> io::Result<()> {
+    write!(out, "example {name}")?;
+    let settings = files::read_part(rt, name, ".set", MOST_SETTINGS)?;
     let mut given = stored::given::usual();
-    let start = stored::given::read_given(&settings[..s], 0, &mut given);
-    if !start.lawful | (start.at < s) {
-        show_verdict(Verdict::Unread);
-        return;
+    let start = stored::given::read_given(&settings, 0, &mut given);
+    if !start.lawful | (start.at < settings.len()) {
+        return show_verdict(out, Verdict::Unread);
     }
-    show_verdict(judge_example(name, given));
+    let verdict = judge_example(rt, name, given)?;
+    show_verdict(out, verdict)
 }
 
-fn show_examples() {
-    let count = os::arg_count();
-    let mut i = 1;
-    while i < count {
-        let mut name = [0u8; 40];
-        let n = os::arg(i, &mut name);
-        show_example(&name[..n]);
-        i += 1;
+// The name of an example: no name where it is too long for one.
+fn name_of(word: &str) -> &str {
+    if word.len() > LONGEST_NAME { "" } else { word }
+}
+
+fn show_examples<R: Files + Env + AllocGlobal, W: Write>(rt: &R, out: &mut W) -> io::Result<()> {
+    for word in env::args(rt)?.skip(1) {
+        show_example(rt, out, name_of(word.as_str()))?;
     }
+    Ok(())
 }
 
-fn show_all(all: &[u8], page: &[u8]) {
-    show_cases(all);
-    show_file(b"threads.cases");
-    show_file(b"threads-refused.cases");
-    show_file(b"points.cases");
-    show_file(b"drilling.cases");
-    show_file(b"arcs.cases");
-    show_file(b"blocks.cases");
-    show_long();
-    show_card(page);
-    show_examples();
+fn show_all<R: Files + Env + AllocGlobal, W: Write>(
+    rt: &R,
+    out: &mut W,
+    all: &[u8],
+    page: &[u8],
+) -> io::Result<()> {
+    show_cases(out, all)?;
+    show_file(rt, out, "threads.cases")?;
+    show_file(rt, out, "threads-refused.cases")?;
+    show_file(rt, out, "points.cases")?;
+    show_file(rt, out, "drilling.cases")?;
+    show_file(rt, out, "arcs.cases")?;
+    show_file(rt, out, "blocks.cases")?;
+    show_long(out)?;
+    show_card(out, page)?;
+    show_examples(rt, out)
 }
 
-fn main() {
-    let mut all = io::large_buffer();
-    let n = io::read_full(STDIN_FILENO, &mut all);
-    let mut page = io::large_buffer();
-    let m = files::read_file(b"ALARMS.md", &mut page);
-    show_all(&all[..n], &page[..m]);
+fn main(rt: HostRuntime) -> io::Result<()> {
+    let all = files::read_most(rt.alloc(), rt.reader(), MOST_BYTES)?;
+    let page = files::read_file(&rt, "ALARMS.md", MOST_BYTES)?;
+    show_all(&rt, &mut rt.stdout(), &all, &page)
 }

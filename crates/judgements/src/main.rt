@@ -2,10 +2,14 @@
 // line that is read, or `ALARM n at p`. The file `stdin` holds them: a name, LF, the tape, and byte 30. `stdout` holds what 01 says of each.
 #![tactic(auto)]
 
-ghost use Rattle.std.specs.Prelude.{◌≤◌, length};
+ghost use Rattle.std.specs.Prelude.{◌≤◌, length, IfOk};
 
-use libc::{STDIN_FILENO, STDOUT_FILENO};
-use reading::Read;
+use std::alloc::{AllocError, Global};
+use std::io;
+use std::io::{Read, Write};
+
+// The most bytes of standard input that are read.
+const MOST_BYTES: u64 = 65_536;
 
 // The longest line that is written.
 const WIDTH: usize = 80;
@@ -35,47 +39,62 @@ fn put(line: &mut [u8; WIDTH], at: usize, text: &[u8]) -> usize
     to
 }
 
-fn put_number(line: &mut [u8; WIDTH], at: usize, n: usize) -> usize
+fn put_number(
+    alloc: Global,
+    line: &mut [u8; WIDTH],
+    at: usize,
+    n: usize,
+) -> Result<usize, AllocError>
     requires { at ≤ 80 }
-    ensures { result ≤ 80 }
+    ensures { IfOk result (λ end. end ≤ 80) }
 {
-    let mut digits = [0u8; 20];
-    let k = io::decimal(n as u64, &mut digits);
-    put(line, at, &digits[..k])
+    let digits = format!(in alloc; "{n}")?;
+    Ok(put(line, at, digits.as_bytes()))
 }
 
-// Writes the first n bytes of a line at once. `io::count` is there for what it ensures, which is what the part `&line[..k]` asks.
-fn write_line(line: [u8; WIDTH], n: usize)
+// Writes the first n bytes of a line at once.
+fn write_line<W: Write>(out: &mut W, line: &[u8; WIDTH], n: usize) -> io::Result<()>
     requires { n ≤ 80 }
 {
-    let k = io::count(n as isize, &line);
-    io::write_all(STDOUT_FILENO, &line[..k]);
+    out.write_all(&line[..n])
 }
 
 // Writes the name of a tape, and two numbers with a word before each.
-fn print(name: &[u8], verb: &[u8], first: usize, joint: &[u8], second: usize) {
+fn print<W: Write>(
+    alloc: Global,
+    out: &mut W,
+    name: &[u8],
+    verb: &[u8],
+    first: usize,
+    joint: &[u8],
+    second: usize,
+) -> io::Result<()> {
     let mut line = [0u8; WIDTH];
     let mut at = put(&mut line, 0, name);
     at = put(&mut line, at, verb);
-    at = put_number(&mut line, at, first);
+    at = put_number(alloc, &mut line, at, first)?;
     at = put(&mut line, at, joint);
-    at = put_number(&mut line, at, second);
+    at = put_number(alloc, &mut line, at, second)?;
     at = put(&mut line, at, b"\n");
-    write_line(line, at);
+    write_line(out, &line, at)
 }
 
 // Reads a tape and writes what came of it.
-fn show(name: &[u8], tape: &[u8]) {
+fn show<W: Write>(alloc: Global, out: &mut W, name: &[u8], tape: &[u8]) -> io::Result<()> {
     if tape.len() > reading::LONGEST_TAPE {
-        print(name, b" ALARM ", wide(alarms::TAPE_TOO_LONG), b" at ", 0);
-        return;
+        let alarm = wide(alarms::TAPE_TOO_LONG);
+        return print(alloc, out, name, b" ALARM ", alarm, b" at ", 0);
     }
     let mut places = [0u64; reading::MOST_PLACES];
     let told = scanning::read_tape(tape, false, &mut places);
     let read = told.read;
     match read {
-        Read::Whole(first, end) => print(name, b" read ", first, b" to ", end),
-        Read::Alarm(number, place) => print(name, b" ALARM ", wide(number), b" at ", place),
+        reading::Read::Whole(first, end) => {
+            print(alloc, out, name, b" read ", first, b" to ", end)
+        }
+        reading::Read::Alarm(number, place) => {
+            print(alloc, out, name, b" ALARM ", wide(number), b" at ", place)
+        }
     }
 }
 
@@ -95,24 +114,25 @@ fn find(s: &[u8], from: usize, b: u8) -> usize
 }
 
 // One tape after the other.
-fn show_all(all: &[u8]) {
+fn show_all<W: Write>(alloc: Global, out: &mut W, all: &[u8]) -> io::Result<()> {
     let mut p = 0;
     while p < all.len() {
         let end = find(all, p, MARK);
         let feed = find(&all[0..end], p, b'\n');
         if feed < end {
             let tape = feed + 1;
-            show(&all[p..feed], &all[tape..end]);
+            show(alloc, out, &all[p..feed], &all[tape..end])?;
         }
         if end >= all.len() {
-            return;
+            return Ok(());
         }
         p = end + 1;
     }
+    Ok(())
 }
 
-fn main() {
-    let mut all = io::large_buffer();
-    let n = io::read_full(STDIN_FILENO, &mut all);
-    show_all(&all[..n]);
+fn main(rt: HostRuntime) -> io::Result<()> {
+    let mut all = Vec::new(rt.alloc());
+    rt.reader().take(MOST_BYTES).read_to_end(&mut all)?;
+    show_all(rt.alloc(), &mut rt.stdout(), &all)
 }

@@ -2,12 +2,17 @@
 // (01: "It prints mark, version and count, then kind, flags, X, Z and value for each record; on an alarm the word ALARM, number, place, count.")
 #![tactic(auto)]
 
-ghost use Rattle.std.specs.Prelude.{◌≡◌, ◌≤◌, length};
+ghost use Rattle.std.specs.Prelude.{◌≡◌, ◌≤◌, length, OnOk};
+ghost use Rattle.std.specs.Io.KnownBytes.{Appends};
 ghost use Rattle.octets.specs.Bytes.{laid};
 ghost use Rattle.listmoves.specs.Printed.{fresh_buffer, printed, text_size};
 
 use demands::interpreter;
-use libc::{STDIN_FILENO, STDOUT_FILENO};
+use std::io;
+use std::io::{Read, Write};
+
+// The most bytes of standard input that are read: one more than a tape may have, so that a longer one is seen to be longer (alarm 2).
+const MOST_BYTES: u64 = 65_536;
 
 // The buffer that is lent: the header and as many records as a list may have.
 const BUFFER: usize = moves::HEADER_SIZE + moves::RECORD_SIZE * moves::RECORD_LIMIT;
@@ -46,11 +51,17 @@ fn list_moves(tape: &[u8], out: &mut [u8]) -> usize
     listing::lines::put_listing(answer, &buf, out)
 }
 
-// The buffer of the tape takes one byte more than a tape may have, so that a longer one is seen to be longer (alarm 2).
-fn main() {
-    let mut tape = io::large_buffer();
-    let n = io::read_full(STDIN_FILENO, &mut tape);
+// Writes the listing of a tape, and nothing else.
+fn write_moves<W: Write>(tape: &[u8], out: &mut W) -> io::Result<()>
+    ensures { OnOk result (Appends (W.contents out.old) (W.contents out.new) (printed tape.now)) }
+{
     let mut text = text_buffer();
-    let k = list_moves(&tape[..n], &mut text);
-    io::write_all(STDOUT_FILENO, &text[..k]);
+    let k = list_moves(tape, &mut text);
+    out.write_all(&text[..k])
+}
+
+fn main(rt: HostRuntime) -> io::Result<()> {
+    let mut tape = Vec::new(rt.alloc());
+    rt.reader().take(MOST_BYTES).read_to_end(&mut tape)?;
+    write_moves(&tape, &mut rt.stdout())
 }

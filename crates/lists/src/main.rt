@@ -7,9 +7,13 @@
 ghost use Rattle.std.specs.Prelude.{◌<◌, ◌≤◌, length};
 
 use lawful::Version;
-use libc::{STDIN_FILENO, STDOUT_FILENO};
 use moves::Record;
 use readback::read::{ReadBack, Source};
+use std::io;
+use std::io::{Read, Write};
+
+// The most bytes of standard input that are read.
+const MOST_BYTES: u64 = 65_536;
 
 // The longest list that is stored.
 const LONGEST: usize = 65_536;
@@ -100,58 +104,44 @@ fn number(text: &[u8]) -> usize
     n
 }
 
-fn print_signed(v: i32) {
-    if v < 0 {
-        io::write_all(STDOUT_FILENO, b"-");
-    }
-    let size = whole::magnitude(v);
-    io::print_decimal(STDOUT_FILENO, size as u64);
-}
-
-fn print_record(what: Record) {
-    io::write_all(STDOUT_FILENO, b" ");
-    io::print_decimal(STDOUT_FILENO, what.kind as u64);
-    io::write_all(STDOUT_FILENO, b" ");
-    io::print_decimal(STDOUT_FILENO, what.flags as u64);
-    io::write_all(STDOUT_FILENO, b" ");
-    print_signed(what.x);
-    io::write_all(STDOUT_FILENO, b" ");
-    print_signed(what.z);
-    io::write_all(STDOUT_FILENO, b" ");
-    io::print_decimal(STDOUT_FILENO, what.value as u64);
+fn print_record<W: Write>(out: &mut W, what: Record) -> io::Result<()> {
+    let Record {
+        kind,
+        flags,
+        x,
+        z,
+        value,
+    } = what;
+    write!(out, " {kind} {flags} {x} {z} {value}")
 }
 
 // The program and the block, where the list tells them.
-fn print_source(source: Source) {
+fn print_source<W: Write>(out: &mut W, source: Source) -> io::Result<()> {
     match source {
         Source::From(origin) => {
-            io::write_all(STDOUT_FILENO, b" ");
-            io::print_decimal(STDOUT_FILENO, origin.program as u64);
-            io::write_all(STDOUT_FILENO, b" ");
-            io::print_decimal(STDOUT_FILENO, origin.block as u64);
+            let program = origin.program;
+            let block = origin.block;
+            write!(out, " {program} {block}")
         }
-        Source::Untold => {}
+        Source::Untold => Ok(()),
     }
 }
 
 // What comes of a list and k.
-fn show(list: &[u8], k: usize) {
+fn show<W: Write>(out: &mut W, list: &[u8], k: usize) -> io::Result<()> {
     let back = readback::read::read_record(list, k);
     match back {
         ReadBack::Found(what, source) => {
-            print_record(what);
-            print_source(source);
+            print_record(out, what)?;
+            print_source(out, source)?;
         }
         ReadBack::Refused(why) => {
-            io::write_all(STDOUT_FILENO, b" REFUSED ");
-            io::print_decimal(STDOUT_FILENO, why as u64);
+            write!(out, " REFUSED {why}")?;
         }
     }
     let mut six = [0i64; 6];
     let few = numbered::read(list, k, &mut six);
-    io::write_all(STDOUT_FILENO, b" ");
-    io::print_decimal(STDOUT_FILENO, few as u64);
-    io::write_all(STDOUT_FILENO, b"\n");
+    writeln!(out, " {few}")
 }
 
 // The bytes of a list as it is stored, and how many they are.
@@ -170,19 +160,18 @@ fn list_of(text: &[u8], list: &mut [u8; LONGEST]) -> usize
     repeat(list, n)
 }
 
-// What comes of the first n bytes. `io::count` is there for what it ensures, which is what the part `&list[..m]` asks.
-fn show_first(list: [u8; LONGEST], n: usize, k: usize)
+// What comes of the first n bytes.
+fn show_first<W: Write>(out: &mut W, list: &[u8; LONGEST], n: usize, k: usize) -> io::Result<()>
     requires { n ≤ 65_536 }
 {
-    let m = io::count(n as isize, &list);
-    show(&list[..m], k);
+    show(out, &list[..n], k)
 }
 
 // A line's list, and what comes of it.
-fn show_list(k: usize, text: &[u8]) {
+fn show_list<W: Write>(out: &mut W, k: usize, text: &[u8]) -> io::Result<()> {
     let mut list = [0u8; LONGEST];
     let n = list_of(text, &mut list);
-    show_first(list, n, k);
+    show_first(out, &list, n, k)
 }
 
 // The place of the first byte b from `from` on, or the end.
@@ -201,36 +190,37 @@ fn find(s: &[u8], from: usize, b: u8) -> usize
 }
 
 // One line: a name, a number, a list.
-fn show_line(line: &[u8]) {
+fn show_line<W: Write>(out: &mut W, line: &[u8]) -> io::Result<()> {
     let name = find(line, 0, b' ');
     if name >= line.len() {
-        return;
+        return Ok(());
     }
     let first = name + 1;
     let last = find(line, first, b' ');
     if last >= line.len() {
-        return;
+        return Ok(());
     }
     let list = last + 1;
-    io::write_all(STDOUT_FILENO, &line[0..name]);
-    show_list(number(&line[first..last]), &line[list..]);
+    out.write_all(&line[0..name])?;
+    show_list(out, number(&line[first..last]), &line[list..])
 }
 
 // One line after the other.
-fn show_all(all: &[u8]) {
+fn show_all<W: Write>(out: &mut W, all: &[u8]) -> io::Result<()> {
     let mut p = 0;
     while p < all.len() {
         let end = find(all, p, b'\n');
-        show_line(&all[p..end]);
+        show_line(out, &all[p..end])?;
         if end >= all.len() {
-            return;
+            return Ok(());
         }
         p = end + 1;
     }
+    Ok(())
 }
 
-fn main() {
-    let mut all = io::large_buffer();
-    let n = io::read_full(STDIN_FILENO, &mut all);
-    show_all(&all[..n]);
+fn main(rt: HostRuntime) -> io::Result<()> {
+    let mut all = Vec::new(rt.alloc());
+    rt.reader().take(MOST_BYTES).read_to_end(&mut all)?;
+    show_all(&mut rt.stdout(), &all)
 }

@@ -20,8 +20,8 @@ origin_of w = record { program = short_at w 0; block = short_at w 1 }
 abbrev pub record_at : List ℕ → ℕ → Record
 record_at w k = record { kind = byte_at w k; flags = byte_at w (k + 1); x = signed_at w (k + 2); z = signed_at w (k + 3); value = at w (k + 4) }
 
-abbrev pub field_own : List ℕ → ℕ → Own
-field_own w k = record { goes = record_at w k; centre = record_at w (k + 5); has_centre = flag_at w (k + 10) }
+abbrev pub own_at : List ℕ → ℕ → Own
+own_at w k = record { goes = record_at w k; centre = record_at w (k + 5); has_centre = flag_at w (k + 10) }
 
 unfoldable pub plan_of : List ℕ → Due → Plan
 plan_of w d = record {
@@ -31,7 +31,7 @@ plan_of w d = record {
   tool = at w 5;
   spindle = at w 6;
   coolant = at w 7;
-  own = field_own w 8;
+  own = own_at w 8;
   x_behind = signed_at w 19;
   z_behind = signed_at w 20;
   stop = at w 21;

@@ -5,10 +5,14 @@
 ghost use Rattle.std.specs.Prelude.{◌+◌, ◌≤◌, length};
 ghost use Rattle.moves.specs.Form.{header_size, record_start, record_size};
 
-use libc::{STDIN_FILENO, STDOUT_FILENO};
 use numbers::{Number, NumberForm};
 use requests::Request;
+use std::io;
+use std::io::{Read, Write};
 use trying::{Came, Tried};
+
+// The most bytes of standard input that are read.
+const MOST_BYTES: u64 = 65_536;
 
 // What ends a trial in `stdin`.
 const MARK: u8 = 30;
@@ -16,24 +20,8 @@ const MARK: u8 = 30;
 // The most records that a trial may ask room for.
 const MOST_ROOM: u32 = 64;
 
-fn show_text(text: &[u8]) {
-    io::write_all(STDOUT_FILENO, text);
-}
-
-fn show_number(n: u32) {
-    io::print_decimal(STDOUT_FILENO, n as u64);
-}
-
-fn show_byte(b: u8) {
-    show_number(b as u32);
-}
-
-fn show_signed(n: i32) {
-    if n < 0 {
-        show_text(b"-");
-    }
-    show_number(whole::magnitude(n));
-}
+// Room for so many.
+const ROOM: usize = moves::HEADER_SIZE + moves::RECORD_SIZE * (MOST_ROOM as usize);
 
 fn four_at(buf: &[u8], at: usize) -> [u8; 4]
     requires { at + 4 ≤ length buf.now }
@@ -42,129 +30,108 @@ fn four_at(buf: &[u8], at: usize) -> [u8; 4]
 }
 
 // Writes a place: X and Z, which stand at `at`.
-fn show_place(buf: &[u8], at: usize)
+fn show_place<W: Write>(out: &mut W, buf: &[u8], at: usize) -> io::Result<()>
     requires { at + 8 ≤ length buf.now }
 {
-    let x = four_at(buf, at);
-    let z = four_at(buf, at + 4);
-    show_signed(octets::i32_of_bytes(x));
-    show_text(b" ");
-    show_signed(octets::i32_of_bytes(z));
-    show_text(b" ");
+    let x = octets::i32_of_bytes(four_at(buf, at));
+    let z = octets::i32_of_bytes(four_at(buf, at + 4));
+    write!(out, "{x} {z} ")
 }
 
 // Writes the record whose first byte stands at `at`, as 01's listing has it: "kind, flags, X, Z and value". It is read from the bytes of the list, so that what is
 // compared is what was written there.
-fn show_record(buf: &[u8], at: usize)
+fn show_record<W: Write>(out: &mut W, buf: &[u8], at: usize) -> io::Result<()>
     requires { at + record_size ≤ length buf.now }
 {
-    show_byte(buf[at]);
-    show_text(b" ");
-    show_byte(buf[at + 1]);
-    show_text(b" ");
-    show_place(buf, at + 4);
-    let value = four_at(buf, at + 12);
-    show_number(octets::u32_of_bytes(value));
-    show_text(b"\n");
+    let kind = buf[at];
+    let flags = buf[at + 1];
+    write!(out, "{kind} {flags} ")?;
+    show_place(out, buf, at + 4)?;
+    let value = octets::u32_of_bytes(four_at(buf, at + 12));
+    writeln!(out, "{value}")
 }
 
 // Writes the first n records of a list.
-fn show_records(buf: &[u8], n: usize)
+fn show_records<W: Write>(out: &mut W, buf: &[u8], n: usize) -> io::Result<()>
     requires { record_start n ≤ length buf.now }
 {
     let mut k = 0;
     while k < n {
-        show_record(buf, moves::HEADER_SIZE + moves::RECORD_SIZE * k);
+        show_record(out, buf, moves::HEADER_SIZE + moves::RECORD_SIZE * k)?;
         k += 1;
     }
-}
-
-fn show_call(program: u32, times: u32) {
-    show_text(b"next call ");
-    show_number(program);
-    show_text(b" ");
-    show_number(times);
-    show_text(b"\n");
-}
-
-fn show_jump(block: u32) {
-    show_text(b"next jump ");
-    show_number(block);
-    show_text(b"\n");
+    Ok(())
 }
 
 // Writes what the last block asks of the runner.
-fn show_next(next: Request) {
+fn show_next<W: Write>(out: &mut W, next: Request) -> io::Result<()> {
     match next {
-        Request::On => show_text(b"next on\n"),
-        Request::Call(program, times) => show_call(program, times),
-        Request::Jump(block) => show_jump(block),
-        Request::Return => show_text(b"next return\n"),
-        Request::End => show_text(b"next end\n"),
+        Request::On => writeln!(out, "next on"),
+        Request::Call(program, times) => writeln!(out, "next call {program} {times}"),
+        Request::Jump(block) => writeln!(out, "next jump {block}"),
+        Request::Return => writeln!(out, "next return"),
+        Request::End => writeln!(out, "next end"),
     }
 }
 
 // Writes the alarm of the last block, or what it asks of the runner.
-fn show_end(tried: Tried) {
-    if tried.alarm != 0 {
-        show_text(b"ALARM ");
-        show_byte(tried.alarm);
-        show_text(b"\n");
-        return;
+fn show_end<W: Write>(out: &mut W, tried: Tried) -> io::Result<()> {
+    let alarm = tried.alarm;
+    if alarm != 0 {
+        return writeln!(out, "ALARM {alarm}");
     }
     let next = tried.next;
-    show_next(next);
+    show_next(out, next)
 }
 
-fn show_unreadable() {
-    show_text(b"unreadable\n");
+fn show_unreadable<W: Write>(out: &mut W) -> io::Result<()> {
+    writeln!(out, "unreadable")
 }
 
 // Runs the blocks and writes what came of them.
-fn show_run(lines: &[u8], buf: &mut [u8])
+fn show_run<W: Write>(out: &mut W, lines: &[u8], buf: &mut [u8]) -> io::Result<()>
     requires { header_size ≤ length buf.old }
 {
     let came = trying::run_lines(lines, buf);
     match came {
-        Came::Unreadable => show_unreadable(),
+        Came::Unreadable => show_unreadable(out),
         Came::Ran(tried) => {
-            show_records(buf, tried.count);
-            show_end(tried);
+            show_records(out, buf, tried.count)?;
+            show_end(out, tried)
         }
     }
 }
 
 // Lends a buffer that has room for so many records and no byte more.
-fn show_in_room(lines: &[u8], room: u32) {
+fn show_in_room<W: Write>(out: &mut W, lines: &[u8], room: u32) -> io::Result<()> {
     if room > MOST_ROOM {
-        show_unreadable();
-        return;
+        return show_unreadable(out);
     }
-    let mut all = io::buffer();
+    let mut all = [0u8; ROOM];
     let end = moves::HEADER_SIZE + moves::RECORD_SIZE * (room as usize);
-    show_run(lines, &mut all[..end]);
+    show_run(out, lines, &mut all[..end])
 }
 
 // Writes the name of a trial and what came of it.
-fn show(name: &[u8], room: &[u8], lines: &[u8]) {
-    show_text(name);
-    show_text(b"\n");
+fn show<W: Write>(out: &mut W, name: &[u8], room: &[u8], lines: &[u8]) -> io::Result<()> {
+    out.write_all(name)?;
+    out.write_all(b"\n")?;
     let number = numbers::read_number(room, NumberForm::TwoDigits);
     match number {
-        Number::Value(n, _) => show_in_room(lines, whole::magnitude(n)),
-        Number::Bad => show_unreadable(),
+        Number::Value(n, _) => show_in_room(out, lines, whole::magnitude(n)),
+        Number::Bad => show_unreadable(out),
     }
 }
 
 // Takes a trial apart: the line of its name, the line of its room, and the blocks behind them.
-fn show_trial(trial: &[u8]) {
+fn show_trial<W: Write>(out: &mut W, trial: &[u8]) -> io::Result<()> {
     let first = tape::line::line_at(trial, 0);
     let name = first.stop;
     let room = first.after;
     let second = tape::line::line_at(trial, room);
     let stop = second.stop;
     let blocks = second.after;
-    show(&trial[..name], &trial[room..stop], &trial[blocks..]);
+    show(out, &trial[..name], &trial[room..stop], &trial[blocks..])
 }
 
 // The place of the mark that ends the trial at `from`, or the end of all.
@@ -183,20 +150,21 @@ fn find_mark(all: &[u8], from: usize) -> usize
 }
 
 // One trial after the other.
-fn show_all(all: &[u8]) {
+fn show_all<W: Write>(out: &mut W, all: &[u8]) -> io::Result<()> {
     let mut p = 0;
     while p < all.len() {
         let end = find_mark(all, p);
-        show_trial(&all[p..end]);
+        show_trial(out, &all[p..end])?;
         if end >= all.len() {
-            return;
+            return Ok(());
         }
         p = end + 1;
     }
+    Ok(())
 }
 
-fn main() {
-    let mut all = io::large_buffer();
-    let n = io::read_full(STDIN_FILENO, &mut all);
-    show_all(&all[..n]);
+fn main(rt: HostRuntime) -> io::Result<()> {
+    let mut all = Vec::new(rt.alloc());
+    rt.reader().take(MOST_BYTES).read_to_end(&mut all)?;
+    show_all(&mut rt.stdout(), &all)
 }

@@ -11,65 +11,65 @@ use Rattle.cyclehand.proofs.give.Statement.{statement}
 use Rattle.cyclehand.proofs.give.Tie as tie
 
 -- a record of the deed is in hand
-abbrev start : tie.Else1 → tie.Start
-start e = e.before.before.before.before.before
+abbrev start : tie.Else-not-is_deed → tie.Start
+start e = e.before.before.before.before
 
-deed : (e : tie.Else1) → is_deed (start e).args.due.now ≡ true
-deed e = sym e.before.is-deed.ensures ∙ not-false _ e.if1.false
+deed : (e : tie.Else-not-is_deed) → is_deed (start e).args.due.now ≡ true
+deed e = sym e.is_deed.ensures ∙ e.if-not-is_deed.false
 
-returns : tie.Need-returns
+returns : tie.Need-returns-then-not-is_deed
 returns c =
-    let a = c.before.before.before.before.before.args in
-    no_deed a.origin a.stops a.due.now a.«record».now (sym c.before.is-deed.ensures ∙ not-true _ c.if1.true)
+    let a = c.args in
+    no_deed a.origin a.stops a.due.now a.«record».now (sym c.is_deed.ensures ∙ c.if-not-is_deed.true)
 
-returns_2 : tie.Need-returns-2
+returns_2 : tie.Need-returns-then-tag-eq-TAG
 returns_2 c =
-    let g = c.before.before.before.before in
-    let t = g.before.before.before in
-    let e = t.before.before in
-    let a = (start e).args in
-    by_slot a.origin a.stops a.due.now a.«record».now (deed e) g.give.result g.give.new.0 g.give.new.1.0 (slot_turning a.due.now t.if2.true refl) g.give.ensures
+    let g = c in
+    let t = g in
+    let e = t in
+    let a = (start e.before.before.before.before.before.before.before.before.before).args in
+    by_slot a.origin a.stops a.due.now a.«record».now (deed e.before.before.before.before.before.before.before.before.before) g.give.result g.give.new.due g.give.new.record (slot_turning a.due.now t.if-tag-eq-TAG.true refl) g.give.ensures
 
-returns_3 : tie.Need-returns-3
+returns_3 : tie.Need-returns-then-tag-eq-TAG-2
 returns_3 c =
-    let g = c.before.before.before.before in
-    let t = g.before.before.before in
-    let e = t.before.before.before in
-    let a = (start e).args in
-    by_slot a.origin a.stops a.due.now a.«record».now (deed e) g.give2.result g.give2.new.0 g.give2.new.1.0 (slot_threading a.due.now t.if3.true refl) g.give2.ensures
+    let g = c in
+    let t = g in
+    let e = t in
+    let a = (start e.before.before.before.before.before.before.before.before.before.before).args in
+    by_slot a.origin a.stops a.due.now a.«record».now (deed e.before.before.before.before.before.before.before.before.before.before) g.give-then-tag-eq-TAG-2.result g.give-then-tag-eq-TAG-2.new.due g.give-then-tag-eq-TAG-2.new.record (slot_threading a.due.now t.if-tag-eq-TAG-2.true refl) g.give-then-tag-eq-TAG-2.ensures
 
-returns_4 : tie.Need-returns-4
+returns_4 : tie.Need-returns-then-tag-eq-TAG-3
 returns_4 c =
-    let g = c.before.before.before.before in
-    let t = g.before.before.before in
-    let e = t.before.before.before.before in
-    let a = (start e).args in
-    by_slot a.origin a.stops a.due.now a.«record».now (deed e) g.give3.result g.give3.new.0 g.give3.new.1.0 (slot_grooving a.due.now t.if4.true refl) g.give3.ensures
+    let g = c in
+    let t = g in
+    let e = t in
+    let a = (start e.before.before.before.before.before.before.before.before.before.before.before).args in
+    by_slot a.origin a.stops a.due.now a.«record».now (deed e.before.before.before.before.before.before.before.before.before.before.before) g.give-then-tag-eq-TAG-3.result g.give-then-tag-eq-TAG-3.new.due g.give-then-tag-eq-TAG-3.new.record (slot_grooving a.due.now t.if-tag-eq-TAG-3.true refl) g.give-then-tag-eq-TAG-3.ensures
 
-returns_5 : tie.Need-returns-5
+returns_5 : tie.Need-returns-then-tag-eq-TAG-4
 returns_5 c =
-    let g = c.before.before.before.before in
-    let t = g.before.before.before in
-    let e = t.before.before.before.before.before in
-    let a = (start e).args in
-    by_slot a.origin a.stops a.due.now a.«record».now (deed e) g.give4.result g.give4.new.0 g.give4.new.1.0 (slot_drilling a.due.now t.if5.true refl) g.give4.ensures
+    let g = c in
+    let t = g in
+    let e = t in
+    let a = (start e.before.before.before.before.before.before.before.before.before.before.before.before).args in
+    by_slot a.origin a.stops a.due.now a.«record».now (deed e.before.before.before.before.before.before.before.before.before.before.before.before) g.give-then-tag-eq-TAG-4.result g.give-then-tag-eq-TAG-4.new.due g.give-then-tag-eq-TAG-4.new.record (slot_drilling a.due.now t.if-tag-eq-TAG-4.true refl) g.give-then-tag-eq-TAG-4.ensures
 
-single : (c : tie.Else5) → has_next (slot_of (start c.before.before.before.before.before).args.due.now) ≡ false
+single : (c : tie.Else-tag-eq-TAG-4) → has_next (slot_of (start c.before.before.before.before.before).args.due.now) ≡ false
 unfolding slot_of
 single c =
     rw (
-      ne_eqb _ _ c.before.before.before.if2.false,
-      ne_eqb _ _ c.before.before.if3.false,
-      ne_eqb _ _ c.before.if4.false,
-      ne_eqb _ _ c.if5.false,
+      ne_eqb _ _ c.if-tag-eq-TAG.false,
+      ne_eqb _ _ c.if-tag-eq-TAG-2.false,
+      ne_eqb _ _ c.if-tag-eq-TAG-3.false,
+      ne_eqb _ _ c.if-tag-eq-TAG-4.false,
     )
     refl
 
-returns_6 : tie.Need-returns-6
+returns_6 : tie.Need-returns
 returns_6 c =
-    let e = c.before.before.before.before.before in
-    let a = (start e).args in
-    no_cycle a.origin a.stops a.due.now a.«record».now (deed e) (single c)
+    let e = c in
+    let a = (start e.before.before.before.before.before).args in
+    no_cycle a.origin a.stops a.due.now a.«record».now (deed e.before.before.before.before.before) (single c)
 
 pub give_spec : {M : Type 1} → statement M
 give_spec =

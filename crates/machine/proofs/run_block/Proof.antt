@@ -20,56 +20,56 @@ use Rattle.machine.proofs.Running.{refused, nothing_written, done_few, done_reco
 use Rattle.machine.proofs.run_block.Statement.{statement}
 use Rattle.machine.proofs.run_block.Tie as tie
 
-cast_judge_block : tie.Need-overflow-cast-judge-block
-cast_judge_block c = omega (arith, c.room.ensures, room_few (length c.before.before.args.buf.now))
+cast_judge_block : tie.Need-overflow_cast-room_left
+cast_judge_block c = omega (arith, c.room.ensures, room_few (length c.args.buf.now))
 
 -- the verdict is the one that is defined, of the room of the buffer
-verdict_is : (c : tie.After-judge-block) →
-    let a = c.before.before.before.args in
-    c.judge-block.result ≡ verdict_of a.table.now a.set a.s a.b (room_of (length a.buf.now) - a.k)
+verdict_is : (c : tie.After-judge_block-verdict) →
+    let a = c.args in
+    c.judge_block-verdict.result ≡ verdict_of a.table.now a.set a.s a.b (room_of (length a.buf.now) - a.k)
 verdict_is c =
-    let a = c.before.before.before.args in
-    c.judge-block.ensures.0 ∙ ap (λ (n : ℕ). verdict_of a.table.now a.set a.s a.b (n - a.k)) c.before.room.ensures
+    let a = c.args in
+    c.judge_block-verdict.ensures.0 ∙ ap (λ (n : ℕ). verdict_of a.table.now a.set a.s a.b (n - a.k)) c.room.ensures
 
-put_writes_requires : tie.Need-put-writes-requires
+put_writes_requires : tie.Need-put_writes-count-requires
 unfolding going_of
 put_writes_requires c κs =
-    let m = c.before.before.before in
-    let j = m.before.before in
-    let s = j.before.before.before in
+    let m = c in
+    let j = m in
+    let s = j in
     let a = s.args in
     let room = room_of (length a.buf.now) in
-    let g = m.verdict2.given.0.0 in
-    let w = went a.table.now a.set a.s a.b (room - a.k) g (sym (verdict_is j) ∙ m.verdict2.given.1) in
+    let g = m.in-Goes.going in
+    let w = went a.table.now a.set a.s a.b (room - a.k) g (sym (verdict_is j.before.before.before) ∙ m.in-Goes.is) in
     let few = done_few a.table.now a.set a.s a.b (room - a.k) w.well in
     let same = going_records a.table.now a.set a.s a.b w.is in (
       subst (λ (x : Going). Right x.deed) (sym w.is) (right_in a.table.now a.set a.s a.b (room - a.k) w.well),
-      subst Known m.verdict2.given.1 j.judge-block.ensures.1,
+      subst Known m.in-Goes.is j.judge_block-verdict.ensures.1,
       subst (λ (x : Going). x.count ≡ length (doing x.deed)) (sym w.is) (counted_in a.table.now a.set a.s a.b (room - a.k) w.well),
       room_fits (length a.buf.now) (a.k + length (writes g.settled a.b g.deed)) s.requires.4 (omega (arith, few, ap length same, s.requires.5)),
     )
 
-returns : tie.Need-returns
+returns : tie.Need-returns-in-Refused
 returns c =
-    let m = c.before in
-    let j = m.before.before in
-    let a = j.before.before.before.args in
+    let m = c in
+    let j = m in
+    let a = j.args in
     let room = room_of (length a.buf.now) in
-    let w = was_refused a.table.now a.set a.s a.b (room - a.k) m.verdict.given.0.0 (sym (verdict_is j) ∙ m.verdict.given.1) in
+    let w = was_refused a.table.now a.set a.s a.b (room - a.k) m.in-Refused.alarm (sym (verdict_is j.before) ∙ m.in-Refused.is) in
     (refused a.table.now a.set a.s a.b room a.k w.some w.is, nothing_written a.table.now a.set a.s a.b room a.k w.some a.origin a.buf.now)
 
-returns_2 : tie.Need-returns-2
+returns_2 : tie.Need-returns-in-Goes
 returns_2 c =
-    let p = c.before.before.before in
-    let m = p.before.before.before.before in
-    let j = m.before.before in
-    let a = j.before.before.before.args in
+    let p = c in
+    let m = p in
+    let j = m in
+    let a = j.args in
     let room = room_of (length a.buf.now) in
-    let w = went a.table.now a.set a.s a.b (room - a.k) m.verdict2.given.0.0 (sym (verdict_is j) ∙ m.verdict2.given.1) in
+    let w = went a.table.now a.set a.s a.b (room - a.k) m.in-Goes.going (sym (verdict_is j.before.before.before.before.before.before.before) ∙ m.in-Goes.is) in
     let same = going_records a.table.now a.set a.s a.b w.is in (
-      went_well a.table.now a.set a.s a.b room a.k w.well (c.done-of.ensures ∙ going_state a.table.now a.set a.s a.b w.is)
-          (p.put-writes.ensures.0 ∙ ap (λ (v : List Record). a.k + length v) same),
-      p.put-writes.ensures.1
+      went_well a.table.now a.set a.s a.b room a.k w.well (c.done_of-state.ensures ∙ going_state a.table.now a.set a.s a.b w.is)
+          (p.put_writes-count.ensures.0 ∙ ap (λ (v : List Record). a.k + length v) same),
+      p.put_writes-count.ensures.1
           ∙ ap (λ (v : List Record). laid a.buf.now (record_start a.k) (row_from a.origin v)) (same ∙ sym (done_recorded a.table.now a.set a.s a.b (room - a.k) w.well)),
     )
 

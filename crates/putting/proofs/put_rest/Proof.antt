@@ -72,7 +72,7 @@ stop_room : (k : tie.After-single-stop invariant_loop decreases_loop) → (cycle
 stop_room k =
     let q = cycle_of k in
     let s = (loop_by (told_by_lem q)).before.before.before in
-    written_room s.pre.1 (cycle_written q) _ _ (stop_behind s.args.c.plan k.if-plan.true)
+    written_room s.requires.1 (cycle_written q) _ _ (stop_behind s.args.c.plan k.if-plan.true)
 
 loop_holds : tie.Need-loop-handed-init invariant_loop decreases_loop
 loop_holds c = (c.requires.0, none_written _ _ _ _)
@@ -152,7 +152,7 @@ stop_written c =
     let q = cycle_of k.before.before.before.before in
     let s = (loop_by (told_by_lem q)).before.before.before in
     let r = k.single-stop.result in
-    one_written s.pre.1 (cycle_written q) r [] (stop_behind s.args.c.plan k.if-plan.true ∙ ap (λ (x : Record). x ∷ []) (sym k.single-stop.ensures))
+    one_written s.requires.1 (cycle_written q) r [] (stop_behind s.args.c.plan k.if-plan.true ∙ ap (λ (x : Record). x ∷ []) (sym k.single-stop.ensures))
     (lent q.put_cycle-behind.new.buf q.put_cycle-behind.result (record_bytes (listed s.args.origin r)) p.put_record-then-plan.new.part p.put_record-then-plan.ensures)
 
 same_length : tie.Need-shape_of-buf-then-plan invariant_loop decreases_loop
@@ -170,7 +170,7 @@ returns_2 : tie.Need-returns-else-plan invariant_loop decreases_loop
 returns_2 c =
     let q = c in
     let s = (loop_by (told_by_lem q.before.before.before)).before.before.before in
-    all_written s.pre.1 (cycle_written q.before.before.before) (none_behind s.args.c.plan c.if-plan.false)
+    all_written s.requires.1 (cycle_written q.before.before.before) (none_behind s.args.c.plan c.if-plan.false)
 
 same_length_3 : tie.Need-shape_of-buf-else-has_own_loop invariant_loop decreases_loop
 same_length_3 c =

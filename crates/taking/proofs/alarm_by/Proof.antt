@@ -5,29 +5,29 @@ use Rattle.taking.specs.Steps.{alarm_by}
 use Rattle.taking.proofs.alarm_by.Statement.{statement}
 use Rattle.taking.proofs.alarm_by.Tie as tie
 
-returns : tie.Need-returns
+returns : tie.Need-returns-in-Stop
 unfolding alarm_by
-returns c = ap alarm_by (sym c.before.onward.given.1)
+returns c = ap alarm_by (sym c.in-Stop.is)
 
-returns_2 : tie.Need-returns-2
+returns_2 : tie.Need-returns-in-On
 unfolding alarm_by
-returns_2 c = ap alarm_by (sym c.enum_told.given.1)
+returns_2 c = ap alarm_by (sym c.in-On.is)
 
-returns_3 : tie.Need-returns-3
+returns_3 : tie.Need-returns-in-Call
 unfolding alarm_by
-returns_3 c = ap alarm_by (sym c.enum-told2.given.1)
+returns_3 c = ap alarm_by (sym c.in-Call.is)
 
-returns_4 : tie.Need-returns-4
+returns_4 : tie.Need-returns-in-Jump
 unfolding alarm_by
-returns_4 c = ap alarm_by (sym c.enum-told3.given.1)
+returns_4 c = ap alarm_by (sym c.in-Jump.is)
 
-returns_5 : tie.Need-returns-5
+returns_5 : tie.Need-returns-in-Return
 unfolding alarm_by
-returns_5 c = ap alarm_by (sym c.enum-told4.given.1)
+returns_5 c = ap alarm_by (sym c.in-Return.is)
 
-returns_6 : tie.Need-returns-6
+returns_6 : tie.Need-returns-in-End
 unfolding alarm_by
-returns_6 c = ap alarm_by (sym c.enum-told5.given.1)
+returns_6 c = ap alarm_by (sym c.in-End.is)
 
 pub alarm_by_spec : {M : Type 1} → statement M
 alarm_by_spec =

@@ -18,13 +18,13 @@ unfolding stamped
 none o [] e = refl
 none o (r ∷ v) e = absurd (omega (arith, e))
 
-returns : tie.Need-returns
+returns : tie.Need-returns-then-total-eq0
 unfolding in_hand
-returns c = let s = c.before in (none s.args.origin (writes s.args.s s.args.b s.args.d) (sym s.requires.2 ∙ c.if1.true), tt)
+returns c = let s = c in (none s.args.origin (writes s.args.s s.args.b s.args.d) (sym s.requires.2 ∙ c.if-total-eq0.true), tt)
 
-returns_2 : tie.Need-returns-2
+returns_2 : tie.Need-returns
 unfolding in_hand
-returns_2 c = (ap (stamped c.before.before.args.origin) c.open_block.ensures.0, c.open_block.ensures.1)
+returns_2 c = (ap (stamped c.args.origin) c.open_block-cursor.ensures.0, c.open_block-cursor.ensures.1)
 
 pub hand_of_spec : {M : Type 1} → statement M
 hand_of_spec = tie.close (tie.spec returns (λ c κs. search rules) returns_2)

@@ -7,16 +7,16 @@ use Rattle.taking.specs.Meets.{onward_in}
 use Rattle.wording.proofs.onward_of.Statement.{statement}
 use Rattle.wording.proofs.onward_of.Tie as tie
 
-returns : tie.Need-returns
+returns : tie.Need-returns-then-left-eq0
 unfolding onward_in
-returns c = (λ _. rw (eq-eqb _ _ c.if1.true), record { found = Nowhere; asks = rw (eq-eqb _ _ c.if1.true) })
+returns c = (λ _. rw (eq-eqb _ _ c.if-left-eq0.true), record { found = Nowhere; asks = rw (eq-eqb _ _ c.if-left-eq0.true) })
 
-returns_2 : tie.Need-returns-2
+returns_2 : tie.Need-returns
 unfolding onward_in
 returns_2 c =
     let l = c.look_up.ensures in (
-      λ row. l.0 row ∙ rw (c.before.request-of.ensures, ne_eqb _ _ c.before.before.if1.false),
-      record { found = l.1.found; asks = l.1.looks ∙ rw (c.before.request-of.ensures, ne_eqb _ _ c.before.before.if1.false) },
+      λ row. l.0 row ∙ rw (c.request_of-next.ensures, ne_eqb _ _ c.if-left-eq0.false),
+      record { found = l.1.found; asks = l.1.looks ∙ rw (c.request_of-next.ensures, ne_eqb _ _ c.if-left-eq0.false) },
     )
 
 pub onward_of_spec : {M : Type 1} → statement M

@@ -33,11 +33,11 @@ use Rattle.wording.proofs.open_words.Statement.{statement}
 use Rattle.wording.proofs.open_words.Tie as tie
 
 -- ---- the block's words, and what it asks of the runner
-module _ (k : tie.After-alarm-by) where
-  abbrev asking : tie.After-onward-of
+module _ (k : tie.After-alarm_by-asked) where
+  abbrev asking : tie.After-onward_of-onward
   asking = k.before
 
-  abbrev reading : tie.After-words-of
+  abbrev reading : tie.After-words_of-b
   reading = asking.before.before
 
   abbrev begun : tie.Start
@@ -53,18 +53,18 @@ module _ (k : tie.After-alarm-by) where
   block = block_on begun.args.tape.now begun.args.line.at
 
   abbrev onward : Onward
-  onward = asking.onward-of.result
+  onward = asking.onward_of-onward.result
 
-  words : reading.words_of.result ≡ block
-  words = words_are begun.args.tape.now begun.pre.1 reading.words_of.ensures
+  words : reading.words_of-b.result ≡ block
+  words = words_are begun.args.tape.now begun.requires.1 reading.words_of-b.ensures
 
   -- as it is defined, where the table of places is the tape's own
   asked : (first : ℕ) → Finds row begun.args.tape.now first → FoundAt begun.args.tape.now first begun.args.frame.program
       → onward ≡ onward_of (task_in begun.args.tape.now begun.args.table.now begun.args.set first begun.args.room) there begun.args.run
   asked first finds here =
       let a = begun.args in
-      asking.onward-of.ensures.0 finds.ascends
-      ∙ (λ i. onward_in row a.set (asking.before.onto.ensures i) a.run.blocks_left (words i))
+      asking.onward_of-onward.ensures.0 finds.ascends
+      ∙ (λ i. onward_in row a.set (asking.onto-there.ensures i) a.run.blocks_left (words i))
       ∙ onward_same row a.tape.now first finds a.set there here a.run.blocks_left block
 
   -- and for any table
@@ -72,102 +72,102 @@ module _ (k : tie.After-alarm-by) where
   asks =
       let a = begun.args in
       subst (λ (b : Block). Asks a.set there a.run.blocks_left b onward) words
-      (subst (λ (f : Frame). Asks a.set f a.run.blocks_left reading.words_of.result onward) asking.before.onto.ensures asking.onward-of.ensures.1)
+      (subst (λ (f : Frame). Asks a.set f a.run.blocks_left reading.words_of-b.result onward) asking.onto-there.ensures asking.onward_of-onward.ensures.1)
 
   -- the step came to d
   abbrev Came : Opened → Type 0
   Came d = let a = begun.args in OpenMeets a.tape.now a.table.now a.set a.places.now a.count a.room a.frame a.run d
 
 -- ---- where that is no alarm
-module _ (e : tie.Else1) where
-  abbrev k : tie.After-alarm-by
+module _ (e : tie.Else-asked-ne0) where
+  abbrev k : tie.After-alarm_by-asked
   k = e.before
 
   fine : alarm_by (onward k) ≡ 0
-  fine = sym k.alarm-by.ensures ∙ e.if1.left
+  fine = sym k.alarm_by-asked.ensures ∙ e.if-asked-ne0.false
 
   some : 0 < (begun k).args.run.blocks_left
   some = let a = (begun k).args in asks_some a.set (there k) a.run.blocks_left (block k) (onward k) (asks k) fine
 
-words_of_requires : tie.Need-words-of-requires
-words_of_requires c κs = let s = c.before.before.before in behind_number s.args.tape.now s.requires.1
+words_of_requires : tie.Need-words_of-b-requires
+words_of_requires c κs = let s = c in behind_number s.args.tape.now s.requires.1
 
-returns : tie.Need-returns
+returns : tie.Need-returns-then-asked-ne0
 returns c =
-    let t = c.before in
-    let k = t.before in
-    let s = begun k in
+    let t = c in
+    let k = t in
+    let s = begun k.before.before in
     let a = s.args in
-    subst (Came k) (sym c.refused.ensures)
-    (refused_asked a.tape.now a.table.now a.set a.places.now a.count a.room a.frame a.run s.pre.0 a.line.at s.pre.1.first (asked k)
-    (same_after a.tape.now s.pre.1) s.pre.1.known.ends k.alarm-by.ensures t.if1.true)
+    subst (Came k.before.before) (sym c.refused.ensures)
+    (refused_asked a.tape.now a.table.now a.set a.places.now a.count a.room a.frame a.run s.requires.0 a.line.at s.requires.1.first (asked k.before.before)
+    (same_after a.tape.now s.requires.1) s.requires.1.known.ends k.alarm_by-asked.ensures t.if-asked-ne0.true)
 
-judge_block_requires : tie.Need-judge-block-requires
+judge_block_requires : tie.Need-judge_block-verdict-requires
 judge_block_requires c κs =
-    let k = c.before.before.before in
-    let n = (begun k).requires.0 in
-    (n.offsets, n.range, n.state, subst Worded (sym (reading k).words_of.ensures) (worded_in _))
+    let k = c in
+    let n = (begun k.before.before.before).requires.0 in
+    (n.offsets, n.range, n.state, subst Worded (sym (reading k.before.before.before).words_of-b.ensures) (worded_in _))
 
-origin_of_requires : tie.Need-origin-of-requires
-origin_of_requires c κs = (begun c.before.before.before.before.before.before.before).pre.1.known.small
+origin_of_requires : tie.Need-origin_of-origin-requires
+origin_of_requires c κs = (begun c.before.before.before.before.before).requires.1.known.small
 
-open_going_requires : tie.Need-open-going-requires
+open_going_requires : tie.Need-open_going-requires
 unfolding going_of
 open_going_requires c κs =
-    let m = c.before.before in
-    let j = m.before.before in
-    let e = j.before.before.before in
-    let k = e.before in
-    let s = begun k in
+    let m = c in
+    let j = m in
+    let e = j in
+    let k = e in
+    let s = begun k.before.before.before.before.before.before in
     let a = s.args in
-    let b = (reading k).words_of.result in
+    let b = (reading k.before.before.before.before.before.before).words_of-b.result in
     let left = a.room - a.run.count in
-    let w = went a.table.now a.set a.run.state b left m.verdict2.given.0.0 (sym j.judge-block.ensures.0 ∙ m.verdict2.given.1) in
+    let w = went a.table.now a.set a.run.state b left m.in-Goes.going (sym j.judge_block-verdict.ensures.0 ∙ m.in-Goes.is) in
     let few = done_few a.table.now a.set a.run.state b left w.well in (
       subst (λ (x : Going). Right x.deed) (sym w.is) (right_in a.table.now a.set a.run.state b left w.well),
-      subst Known m.verdict2.given.1 j.judge-block.ensures.1,
+      subst Known m.in-Goes.is j.judge_block-verdict.ensures.1,
       subst (λ (x : Going). x.count ≡ length (doing x.deed)) (sym w.is) (counted_in a.table.now a.set a.run.state b left w.well),
-      some e,
-      omega (arith, few, ap length (going_records a.table.now a.set a.run.state b w.is), s.pre.0.few, s.pre.0.limit),
+      some e.before.before.before.before.before,
+      omega (arith, few, ap length (going_records a.table.now a.set a.run.state b w.is), s.requires.0.few, s.requires.0.limit),
     )
 
-returns_2 : tie.Need-returns-2
+returns_2 : tie.Need-returns-in-Refused
 returns_2 c =
-    let m = c.before.before in
-    let j = m.before.before in
-    let e = j.before.before.before in
-    let k = e.before in
-    let s = begun k in
+    let m = c in
+    let j = m in
+    let e = j in
+    let k = e in
+    let s = begun k.before.before.before.before.before.before in
     let a = s.args in
     let left = a.room - a.run.count in
-    let w = was_refused a.table.now a.set a.run.state (block k) left m.verdict.given.0.0
-    (sym (j.judge-block.ensures.0 ∙ ap (λ (b : Block). verdict_of a.table.now a.set a.run.state b left) (words k)) ∙ m.verdict.given.1) in
-    subst (Came k) (sym c.refused2.ensures)
-    (refused_own a.tape.now a.table.now a.set a.places.now a.count a.room a.frame a.run s.pre.0 a.line.at s.pre.1.first (asked k)
-    (same_after a.tape.now s.pre.1) s.pre.1.known.ends (fine e) w.is (λ z. w.some (sym w.is ∙ z)))
+    let w = was_refused a.table.now a.set a.run.state (block k.before.before.before.before.before.before) left m.in-Refused.alarm
+    (sym (j.judge_block-verdict.ensures.0 ∙ ap (λ (b : Block). verdict_of a.table.now a.set a.run.state b left) (words k.before.before.before.before.before.before)) ∙ m.in-Refused.is) in
+    subst (Came k.before.before.before.before.before.before) (sym c.refused-in-Refused.ensures)
+    (refused_own a.tape.now a.table.now a.set a.places.now a.count a.room a.frame a.run s.requires.0 a.line.at s.requires.1.first (asked k.before.before.before.before.before.before)
+    (same_after a.tape.now s.requires.1) s.requires.1.known.ends (fine e.before.before.before.before.before) w.is (λ z. w.some (sym w.is ∙ z)))
 
-returns_3 : tie.Need-returns-3
+returns_3 : tie.Need-returns-in-Goes
 returns_3 c =
-    let o = c.before in
-    let m = o.before.before in
-    let j = m.before.before in
-    let e = j.before.before.before in
-    let k = e.before in
-    let s = begun k in
+    let o = c in
+    let m = o in
+    let j = m in
+    let e = j in
+    let k = e in
+    let s = begun k.before.before.before.before.before.before.before in
     let a = s.args in
-    let b = (reading k).words_of.result in
+    let b = (reading k.before.before.before.before.before.before.before).words_of-b.result in
     let left = a.room - a.run.count in
-    let w = went a.table.now a.set a.run.state b left m.verdict2.given.0.0 (sym j.judge-block.ensures.0 ∙ m.verdict2.given.1) in
-    let records = going_records a.table.now a.set a.run.state b w.is ∙ ap (done_records a.table.now a.set a.run.state) (words k) in
-    let state = going_state a.table.now a.set a.run.state b w.is ∙ ap (done_state a.table.now a.set a.run.state) (words k) in
-    let g = c.open-going.ensures in
-    gone a.tape.now a.table.now a.set a.places.now a.count a.room a.frame a.run s.pre.0 a.line.at s.pre.1.first (asked k)
-    (same_after a.tape.now s.pre.1) s.pre.1.known.ends (fine e) (some e) (asks_stops a.set (there k) a.run.blocks_left (block k) (onward k) (asks k))
-    (sym (ap (λ (b : Block). alarm_in a.table.now a.set a.run.state b left) (words k)) ∙ w.well)
-    c.open-going.result o.origin-of.result
-    (g.came ∙ (λ i. went_by (onward k) (state i) a.run (a.run.count + length (records i)) a.line.after))
-    (g.has ∙ ap (λ (v : List Record). stamped o.origin-of.result v) records) g.held
-    (λ first here. o.origin-of.ensures ∙ same_origin_lem a.tape.now s.pre.1 a.frame (program_small a.frame.program.number (lines a.tape.now first) a.frame.program.line here))
+    let w = went a.table.now a.set a.run.state b left m.in-Goes.going (sym j.judge_block-verdict.ensures.0 ∙ m.in-Goes.is) in
+    let records = going_records a.table.now a.set a.run.state b w.is ∙ ap (done_records a.table.now a.set a.run.state) (words k.before.before.before.before.before.before.before) in
+    let state = going_state a.table.now a.set a.run.state b w.is ∙ ap (done_state a.table.now a.set a.run.state) (words k.before.before.before.before.before.before.before) in
+    let g = c.open_going.ensures in
+    gone a.tape.now a.table.now a.set a.places.now a.count a.room a.frame a.run s.requires.0 a.line.at s.requires.1.first (asked k.before.before.before.before.before.before.before)
+    (same_after a.tape.now s.requires.1) s.requires.1.known.ends (fine e.before.before.before.before.before.before) (some e.before.before.before.before.before.before) (asks_stops a.set (there k.before.before.before.before.before.before.before) a.run.blocks_left (block k.before.before.before.before.before.before.before) (onward k.before.before.before.before.before.before.before) (asks k.before.before.before.before.before.before.before))
+    (sym (ap (λ (b : Block). alarm_in a.table.now a.set a.run.state b left) (words k.before.before.before.before.before.before.before)) ∙ w.well)
+    c.open_going.result o.origin_of-origin.result
+    (g.came ∙ (λ i. went_by (onward k.before.before.before.before.before.before.before) (state i) a.run (a.run.count + length (records i)) a.line.after))
+    (g.has ∙ ap (λ (v : List Record). stamped o.origin_of-origin.result v) records) g.held
+    (λ first here. o.origin_of-origin.ensures ∙ same_origin_lem a.tape.now s.requires.1 a.frame (program_small a.frame.program.number (lines a.tape.now first) a.frame.program.line here))
 
 pub open_words_spec : {M : Type 1} → statement M
 open_words_spec =

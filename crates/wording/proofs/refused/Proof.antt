@@ -8,7 +8,7 @@ use Rattle.wording.proofs.refused.Statement.{statement}
 use Rattle.wording.proofs.refused.Tie as tie
 
 returns : tie.Need-returns
-returns c = ap {B = Opened} (λ (x : StepDone). record { done = x; hand = Nothing }) c.stopped.ensures
+returns c = ap {B = Opened} (λ (x : StepDone). record { done = x; hand = Nothing }) c.stopped-done.ensures
 
 pub refused_spec : {M : Type 1} → statement M
 refused_spec = tie.close (tie.spec (λ c κs. search rules) returns)

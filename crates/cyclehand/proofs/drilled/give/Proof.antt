@@ -10,42 +10,42 @@ use Rattle.cyclehand.proofs.drilled.give.Statement.{statement}
 use Rattle.cyclehand.proofs.drilled.give.Tie as tie
 
 -- what was read, and where
-abbrev start : tie.After-is-over → tie.Start
-start t = t.before.before.before.before.before
+abbrev start : tie.After-is_over → tie.Start
+start t = t.before.before.before.before
 
-read : (t : tie.After-is-over) → Drilling t.before.cursor-of.result ≡ Drilling (drilling_of (start t).args.due.now)
-read t = ap Drilling t.before.cursor-of.ensures
+read : (t : tie.After-is_over) → Drilling t.cursor_of-c.result ≡ Drilling (drilling_of (start t).args.due.now)
+read t = ap Drilling t.cursor_of-c.ensures
 
-returns : tie.Need-returns
+returns : tie.Need-returns-then-is_over
 returns c =
-    let t = c.before in
-    let a = (start t).args in
-    over_other a.origin a.stops a.due.now a.«record».now (read t) refl t.is-over.ensures c.if1.true
+    let t = c in
+    let a = (start t.before).args in
+    over_other a.origin a.stops a.due.now a.«record».now (read t.before) refl t.is_over.ensures c.if-is_over.true
 
-returns_2 : tie.Need-returns-2
+returns_2 : tie.Need-returns-then-not-is_fit
 returns_2 c =
-    let fit = c.before in
-    let t = fit.before.before in
-    let a = (start t).args in
-    not_fit a.origin a.stops a.due.now a.«record».now (read t) refl t.is-over.ensures fit.before.if1.false fit.is-fit.ensures (not-true _ c.if2.true)
+    let fit = c in
+    let t = fit in
+    let a = (start t.before.before.before).args in
+    not_fit a.origin a.stops a.due.now a.«record».now (read t.before.before.before) refl t.is_over.ensures fit.if-is_over.false fit.is_fit.ensures c.if-not-is_fit.true
 
-next_requires : tie.Need-next-requires
+next_requires : tie.Need-next-handed-requires
 next_requires c κs =
-    let fit = c.before in
-    let t = fit.before.before in
-    (fit.is-fit.ensures.0 (not-false _ c.if2.false), sym t.is-over.ensures ∙ fit.before.if1.false)
+    let fit = c in
+    let t = fit in
+    (fit.is_fit.ensures.0 c.if-not-is_fit.false, sym t.is_over.ensures ∙ fit.if-is_over.false)
 
-returns_3 : tie.Need-returns-3
+returns_3 : tie.Need-returns
 returns_3 c =
-    let put = c.before.before in
-    let laid = put.before.before.before.before in
-    let next = laid.before.before.before.before in
-    let tested = next.before in
-    let fit = tested.before in
-    let t = fit.before.before in
-    let a = (start t).args in
-    given a.origin a.stops a.due.now a.«record».now (read t) refl t.is-over.ensures fit.before.if1.false (fit.is-fit.ensures.0 (not-false _ tested.if2.false)) refl
-    (λ p s. drilling_next p s refl next.next.ensures) laid.put_record.ensures put.put-behind.ensures
+    let put = c in
+    let laid = put in
+    let next = laid in
+    let tested = next in
+    let fit = tested in
+    let t = fit in
+    let a = (start t.before.before.before.before.before.before.before.before.before.before.before.before.before.before).args in
+    given a.origin a.stops a.due.now a.«record».now (read t.before.before.before.before.before.before.before.before.before.before.before.before.before.before) refl t.is_over.ensures fit.if-is_over.false (fit.is_fit.ensures.0 tested.if-not-is_fit.false) refl
+    (λ p s. drilling_next p s refl next.next-handed.ensures) laid.put_record.ensures put.put_behind.ensures
 
 pub give_spec : {M : Type 1} → statement M
 give_spec =

@@ -6,23 +6,23 @@ use Rattle.passhand.proofs.Giving.{put_none, put_some}
 use Rattle.cyclehand.proofs.drilled.put_behind.Statement.{statement}
 use Rattle.cyclehand.proofs.drilled.put_behind.Tie as tie
 
-returns : tie.Need-returns
+returns : tie.Need-returns-then-is_over-stops
 returns c =
-    let put = c.before.before in
-    let made = put.before.before in
-    let t = made.before.before in
-    let s = t.before.before.before in
-    put_none s.args.due.now made.empty-words.result (Drilling s.args.c) s.requires (search rules) t.before.is-over.ensures put.put-words.ensures t.if1.true made.empty-words.ensures
+    let put = c in
+    let made = put in
+    let t = made in
+    let s = t in
+    put_none s.args.due.now made.empty_words.result (Drilling s.args.c) s.requires (search rules) t.is_over.ensures put.put_words.ensures t.if-is_over-stops.true made.empty_words.ensures
 
-returns_2 : tie.Need-returns-2
+returns_2 : tie.Need-returns
 returns_2 c =
-    let put = c.before.before in
-    let made = put.before.before in
-    let t = made.before.before in
-    let s = t.before.before.before in
+    let put = c in
+    let made = put in
+    let t = made in
+    let s = t in
     let x = made.words_of.result in
     let e = made.words_of.ensures in
-    put_some s.args.due.now x (Drilling s.args.c) s.requires (search rules) t.before.is-over.ensures put.put-words2.ensures t.if1.false e.0 (slot_drilling x e.1 e.2)
+    put_some s.args.due.now x (Drilling s.args.c) s.requires (search rules) t.is_over.ensures put.put_words-2.ensures t.if-is_over-stops.false e.0 (slot_drilling x e.1 e.2)
 
 pub put_behind_spec : {M : Type 1} → statement M
 put_behind_spec =

@@ -11,36 +11,36 @@ use Rattle.steps.proofs.step.take_step.Statement.{statement}
 use Rattle.steps.proofs.step.take_step.Tie as tie
 
 -- where it began
-abbrev begun : tie.After-meet-block → tie.Start
+abbrev begun : tie.After-meet_block-met → tie.Start
 begun m = m.before.before.before.before
 
-do_quiet_requires : tie.Need-do-quiet-requires
+do_quiet_requires : tie.Need-do_quiet-requires
 do_quiet_requires c κs =
-    let q = c.before in
-    let m = q.before.before in
-    let a = (begun m).args in (
-      (begun m).requires.ready.filled,
-      quiet_begun a.tape.now a.frame.at a.run.blocks_left q.met.given.0.0
-          (subst (MetMeets a.tape.now a.frame.at a.run.blocks_left) q.met.given.1 m.meet-block.ensures.1),
+    let q = c in
+    let m = q in
+    let a = (begun m.before).args in (
+      (begun m.before).requires.ready.filled,
+      quiet_begun a.tape.now a.frame.at a.run.blocks_left q.in-Known.quiet
+          (subst (MetMeets a.tape.now a.frame.at a.run.blocks_left) q.in-Known.is m.meet_block-met.ensures.1),
     )
 
-do_words_requires : tie.Need-do-words-requires
+do_words_requires : tie.Need-do_words-requires
 do_words_requires c κs =
-    let q = c.before.before in
-    let m = q.before.before in
-    let a = (begun m).args in
-    ((begun m).requires, subst (MetMeets a.tape.now a.frame.at a.run.blocks_left) q.met2.given.1 m.meet-block.ensures.1)
+    let q = c in
+    let m = q in
+    let a = (begun m.before.before).args in
+    ((begun m.before.before).requires, subst (MetMeets a.tape.now a.frame.at a.run.blocks_left) q.in-Words.is m.meet_block-met.ensures.1)
 
-returns : tie.Need-returns
+returns : tie.Need-returns-in-Known
 returns c =
-    let q = c.before.before in
-    let m = q.before.before in
-    let s = begun m in
+    let q = c in
+    let m = q in
+    let s = begun m.before.before in
     let a = s.args in
-    quiet_meets a.tape.now a.table.now a.set a.first a.buf.now a.places.now a.count a.frame a.run s.pre (record { done = c.do-quiet.result; hand = Nothing })
+    quiet_meets a.tape.now a.table.now a.set a.first a.buf.now a.places.now a.count a.frame a.run s.requires (record { done = c.do_quiet.result; hand = Nothing })
     (quiet_opens a.tape.now a.table.now a.set a.places.now a.count (room_of (length a.buf.now)) a.frame a.run
-    (able a.tape.now a.table.now a.set a.first a.buf.now a.places.now a.count a.frame a.run s.pre) q.met.given.0.0
-    (subst (MetMeets a.tape.now a.frame.at a.run.blocks_left) q.met.given.1 m.meet-block.ensures.1) c.do-quiet.ensures) refl
+    (able a.tape.now a.table.now a.set a.first a.buf.now a.places.now a.count a.frame a.run s.requires) q.in-Known.quiet
+    (subst (MetMeets a.tape.now a.frame.at a.run.blocks_left) q.in-Known.is m.meet_block-met.ensures.1) c.do_quiet.ensures) refl
 
 pub take_step_spec : {M : Type 1} → statement M
 take_step_spec =

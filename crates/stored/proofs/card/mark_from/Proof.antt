@@ -7,10 +7,10 @@ use Rattle.stored.proofs.card.mark_from.Statement.{statement}
 use Rattle.stored.proofs.card.mark_from.Tie as tie
 
 abbrev invariant_loop : tie.invariant-loop-p
-invariant_loop page from p₀ t7 p = (from ≤ p) × (p ≤ length page)
+invariant_loop page from p₀ p = (from ≤ p) × (p ≤ length page)
 
 abbrev decreases_loop : tie.decreases-loop-p
-decreases_loop page from p₀ t7 p = length page - p
+decreases_loop page from p₀ p = length page - p
 
 returns : tie.Need-returns-then-same invariant_loop decreases_loop
 returns c =

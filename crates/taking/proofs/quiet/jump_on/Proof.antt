@@ -9,18 +9,18 @@ use Rattle.taking.proofs.Lines.{jump_told}
 use Rattle.taking.proofs.quiet.jump_on.Statement.{statement}
 use Rattle.taking.proofs.quiet.jump_on.Tie as tie
 
-returns : tie.Need-returns
+returns : tie.Need-returns-then-line-gt-LONGEST_LINE
 unfolding jump_on
-returns c = (rw (lt-ltb _ _ c.if1.true), tt)
+returns c = (rw (lt-ltb _ _ c.if-line-gt-LONGEST_LINE.true), tt)
 
-returns_2 : tie.Need-returns-2
+returns_2 : tie.Need-returns
 unfolding jump_on
 returns_2 c =
-    let e = c.before.before in
-    let s = e.before.before in
+    let e = c in
+    let s = e in
     let line = s.args.line.now in
     let told = c.jump_in.ensures ∙ ap jump_in (part_is line s.args.behind) in
-    (told ∙ rw (le-ltb _ _ e.if1.false) refl, jump_told line s.args.behind s.requires e.if1.false c.jump_in.result told)
+    (told ∙ rw (le-ltb _ _ e.if-line-gt-LONGEST_LINE.false) refl, jump_told line s.args.behind s.requires e.if-line-gt-LONGEST_LINE.false c.jump_in.result told)
 
 pub jump_on_spec : {M : Type 1} → statement M
 jump_on_spec = tie.close (tie.spec returns (λ c. search rules) (λ c. search rules) (λ c. search rules) (λ c κs. search rules) returns_2)

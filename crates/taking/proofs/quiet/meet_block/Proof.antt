@@ -15,87 +15,87 @@ use Rattle.taking.proofs.quiet.meet_block.Statement.{statement}
 use Rattle.taking.proofs.quiet.meet_block.Tie as tie
 
 -- the block line that was found
-module _ (x : tie.After-next) where
+module _ (x : tie.In-At) where
   abbrev begun : tie.Start
-  begun = x.before.before.before.before
+  begun = x.before.before.before
 
   abbrev line : BlockAt
-  line = x.next.given.0.0
+  line = x.in-At.line
 
   -- what is known of it, and how the step is met by it
   found : Next begun.args.tape.now begun.args.from line
-  found = let n = x.before.before in found_next begun.args.tape.now begun.args.from n.next-block.ensures.0 n.next-block.ensures.1 x.next.given.1
+  found = let n = x in found_next begun.args.tape.now begun.args.from n.next_block-next.ensures.0 n.next_block-next.ensures.1 x.in-At.is
 
   same : {r : Met} → r ≡ met_at begun.args.tape.now begun.args.left line → r ≡ met_from begun.args.tape.now begun.args.from begun.args.left
   same h =
       let a = begun.args in
-      met_is a.tape.now a.from a.left x.before.before.next-block.ensures.0 (h ∙ sym (ap (met_in a.tape.now a.left) x.next.given.1))
+      met_is a.tape.now a.from a.left x.next_block-next.ensures.0 (h ∙ sym (ap (met_in a.tape.now a.left) x.in-At.is))
 
 -- blocks are left to begin
-some : (e : tie.Else1) → 0 < (begun e.before.before).args.left
-some e = not_none (begun e.before.before).args.left e.if1.false
+some : (e : tie.Else-left-eq0) → 0 < (begun e.before).args.left
+some e = not_none (begun e.before).args.left e.if-left-eq0.false
 
-returns : tie.Need-returns
-returns c = let x = c.before.before in (same x (none_left (begun x).args.tape.now (begun x).args.left (line x) c.if1.true), found x)
+returns : tie.Need-returns-then-left-eq0
+returns c = let x = c in (same x.before (none_left (begun x.before).args.tape.now (begun x.before).args.left (line x.before) c.if-left-eq0.true), found x.before)
 
-add_if2 : tie.Need-overflow-add-if2
+add_if2 : tie.Need-overflow_add-at
 add_if2 c =
-    let x = c.before.before.before in
-    let k = (found x).known in
-    let h : (line x).at + (line x).behind ≤ length (begun x).args.tape.now = omega (arith, k.begins, k.text) in
+    let x = c in
+    let k = (found x.before.before).known in
+    let h : (line x.before.before).at + (line x.before.before).behind ≤ length (begun x.before.before).args.tape.now = omega (arith, k.begins, k.text) in
     search rules
 
-returns_2 : tie.Need-returns-2
+returns_2 : tie.Need-returns-then-stop-at
 returns_2 c =
-    let e = c.before.before in
-    let x = e.before.before in
-    (same x (met_bare (begun x).args.tape.now (begun x).args.left (line x) e.if1.false c.if2.true), bare_told _ (found x) (some e) c.if2.true)
+    let e = c in
+    let x = e in
+    (same x.before.before.before (met_bare (begun x.before.before.before).args.tape.now (begun x.before.before.before).args.left (line x.before.before.before) e.if-left-eq0.false c.if-stop-at.true), bare_told _ (found x.before.before.before) (some e.before.before) c.if-stop-at.true)
 
-part_jump_on_end : tie.Need-slice-bounds-jump-on-end
-part_jump_on_end c = let k = (found c.before.before.before.before).known in omega (arith, k.begins, k.text)
+part_jump_on_end : tie.Need-slice_bounds-jump_on-end
+part_jump_on_end c = let k = (found c.before.before.before).known in omega (arith, k.begins, k.text)
 
-jump_on_requires : tie.Need-jump-on-requires
-jump_on_requires c κs = behind_number _ (found c.before.before.before.before.before)
+jump_on_requires : tie.Need-jump_on-jump-requires
+jump_on_requires c κs = behind_number _ (found c.before.before.before.before)
 
 -- the jump that the line's text told
-module _ (k : tie.After-jump-on) where
-  abbrev left_over : tie.Else2
+module _ (k : tie.After-jump_on-jump) where
+  abbrev left_over : tie.Else-stop-at
   left_over = k.before.before
 
-  abbrev starting : tie.Else1
+  abbrev starting : tie.Else-left-eq0
   starting = left_over.before.before
 
-  abbrev there : tie.After-next
-  there = starting.before.before
+  abbrev there : tie.In-At
+  there = starting.before
 
   abbrev text : List ℕ
   text = let l = line there in take (l.stop - l.at) (drop l.at (begun there).args.tape.now)
 
-  told : met_by (line there) k.jump-on.result ≡ met_at (begun there).args.tape.now (begun there).args.left (line there)
-  told = met_text (begun there).args.tape.now (begun there).args.left (line there) starting.if1.left left_over.if2.left k.jump-on.ensures.0
+  told : met_by (line there) k.jump_on-jump.result ≡ met_at (begun there).args.tape.now (begun there).args.left (line there)
+  told = met_text (begun there).args.tape.now (begun there).args.left (line there) starting.if-left-eq0.false left_over.if-stop-at.false k.jump_on-jump.ensures.0
 
-returns_3 : tie.Need-returns-3
+returns_3 : tie.Need-returns-in-Nowhere
 returns_3 c =
-    let n = c.before.before in
-    let a = n.before.before.args in (
-      met_is a.tape.now a.from a.left n.next-block.ensures.0 (sym (ap (met_in a.tape.now a.left) c.enum_told.given.1)),
-      found_none a.tape.now (first_block (lines a.tape.now a.from)) n.next-block.ensures.0 c.enum_told.given.1,
+    let n = c in
+    let a = n.args in (
+      met_is a.tape.now a.from a.left n.next_block-next.ensures.0 (sym (ap (met_in a.tape.now a.left) c.in-Nowhere.is)),
+      found_none a.tape.now (first_block (lines a.tape.now a.from)) n.next_block-next.ensures.0 c.in-Nowhere.is,
     )
 
-returns_4 : tie.Need-returns-4
+returns_4 : tie.Need-returns-in-To
 returns_4 c =
-    let j = c.before in
-    let k = j.before.before in
-    let x = there k in (
-      same x (sym (ap (met_by (line x)) j.jump.given.1) ∙ told k),
-      jump_met _ (found x) (some (starting k)) j.jump.given.0.0 (subst (JumpMeets (text k)) j.jump.given.1 k.jump-on.ensures.1),
+    let j = c in
+    let k = j in
+    let x = there k.before in (
+      same x (sym (ap (met_by (line x)) j.in-To.is) ∙ told k.before),
+      jump_met _ (found x) (some (starting k.before)) j.in-To.to (subst (JumpMeets (text k.before)) j.in-To.is k.jump_on-jump.ensures.1),
     )
 
-returns_5 : tie.Need-returns-5
+returns_5 : tie.Need-returns-in-Other
 returns_5 c =
-    let k = c.before.before in
-    let x = there k in
-    (same x (sym (ap (met_by (line x)) c.enum-told2.given.1) ∙ told k), found x)
+    let k = c in
+    let x = there k.before in
+    (same x (sym (ap (met_by (line x)) c.in-Other.is) ∙ told k.before), found x)
 
 pub meet_block_spec : {M : Type 1} → statement M
 meet_block_spec =
