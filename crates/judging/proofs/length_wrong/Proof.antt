@@ -21,5 +21,5 @@ length_wrong_spec =
     (λ c κs. search rules)
     (λ c. search rules)
     (λ c.
-        ap (λ (n : ℕ). not (eqb (length c.args.list.now) n) || not (eqb (get_or c.args.list.now header_zero_at 0) 0)) c.record_start.ensures
-        ∙ within_limit c.args.list.now c.args.v c.args.count c.requires.1 (omega (arith, c.record_limit.ensures))))
+    ap (λ (n : ℕ). not (eqb (length c.args.list.now) n) || not (eqb (get_or c.args.list.now header_zero_at 0) 0)) c.record_start.ensures
+    ∙ within_limit c.args.list.now c.args.v c.args.count c.requires.1 (omega (arith, c.record_limit.ensures))))

@@ -41,13 +41,13 @@ judge_block_spec =
     (λ c κs. search rules)
     (λ c κs. search rules)
     (λ c.
-        let some : c.alarm_of-alarm.result ≡ 0 → ⊥ = grind arith in
-        let a = c.args in
-        (ap Refused (judged c.before) ∙ sym (verdict_refused a.table.now a.set a.s a.b a.room (λ e. some (judged c.before ∙ e))), tt))
+    let some : c.alarm_of-alarm.result ≡ 0 → ⊥ = grind arith in
+    let a = c.args in
+    (ap Refused (judged c.before) ∙ sym (verdict_refused a.table.now a.set a.s a.b a.room (λ e. some (judged c.before ∙ e))), tt))
     (λ c.
-        let none : c.alarm_of-alarm.result ≡ 0 = omega arith in
-        let a = c.args in (
-          (λ i. Goes (record { settled = c.settle-settled.ensures i; deed = c.deed_in-deed.ensures.0 i; count = (asked c.before i).count }))
-              ∙ sym (verdict_goes a.table.now a.set a.s a.b a.room (sym (judged c.before) ∙ none)),
-          c.deed_in-deed.ensures.1,
-        )))
+    let none : c.alarm_of-alarm.result ≡ 0 = omega arith in
+    let a = c.args in (
+      (λ i. Goes (record { settled = c.settle-settled.ensures i; deed = c.deed_in-deed.ensures.0 i; count = (asked c.before i).count }))
+          ∙ sym (verdict_goes a.table.now a.set a.s a.b a.room (sym (judged c.before) ∙ none)),
+      c.deed_in-deed.ensures.1,
+    )))

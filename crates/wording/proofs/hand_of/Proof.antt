@@ -29,7 +29,7 @@ hand_of_spec =
     tie.close
     (tie.spec
     (λ c.
-        let zero : c.args.total ≡ 0 = omega arith in
-        (none c.args.origin (writes c.args.s c.args.b c.args.d) (sym c.requires.2 ∙ zero), tt))
+    let zero : c.args.total ≡ 0 = omega arith in
+    (none c.args.origin (writes c.args.s c.args.b c.args.d) (sym c.requires.2 ∙ zero), tt))
     (λ c κs. search rules)
     returns_2)

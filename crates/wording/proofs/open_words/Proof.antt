@@ -172,12 +172,12 @@ open_words_spec =
     (λ c κs. search rules)
     (λ c κs. search rules)
     (λ c.
-        let alarm : c.alarm_by-asked.result ≡ 0 → ⊥ = grind arith in
-        let s = begun c.before.before in
-        let a = s.args in
-        subst (Came c.before.before) (sym c.refused.ensures)
-        (refused_asked a.tape.now a.table.now a.set a.places.now a.count a.room a.frame a.run s.requires.0 a.line.at s.requires.1.first (asked c.before.before)
-        (same_after a.tape.now s.requires.1) s.requires.1.known.ends c.alarm_by-asked.ensures alarm))
+    let alarm : c.alarm_by-asked.result ≡ 0 → ⊥ = grind arith in
+    let s = begun c.before.before in
+    let a = s.args in
+    subst (Came c.before.before) (sym c.refused.ensures)
+    (refused_asked a.tape.now a.table.now a.set a.places.now a.count a.room a.frame a.run s.requires.0 a.line.at s.requires.1.first (asked c.before.before)
+    (same_after a.tape.now s.requires.1) s.requires.1.known.ends c.alarm_by-asked.ensures alarm))
     (λ c. search rules)
     (λ c. search rules)
     judge_block_requires

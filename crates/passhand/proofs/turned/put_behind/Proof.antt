@@ -19,14 +19,14 @@ put_behind_spec =
     (λ c κs. search rules)
     (λ c. search rules)
     (λ c.
-        let none : c.is_over.result && not c.args.stops ≡ true = cc in
-        put_none c.args.due.now c.empty_words.result (Turning c.args.c) c.requires (search rules) c.is_over.ensures c.put_words.ensures none c.empty_words.ensures)
+    let none : c.is_over.result && not c.args.stops ≡ true = cc in
+    put_none c.args.due.now c.empty_words.result (Turning c.args.c) c.requires (search rules) c.is_over.ensures c.put_words.ensures none c.empty_words.ensures)
     (λ c κs. search rules)
     (λ c. search rules)
     (λ c κs. search rules)
     (λ c. search rules)
     (λ c.
-        let x = c.words_of.result in
-        let e = c.words_of.ensures in
-        let some : c.is_over.result && not c.args.stops ≡ false = cc in
-        put_some c.args.due.now x (Turning c.args.c) c.requires (search rules) c.is_over.ensures c.put_words-2.ensures some e.0 (slot_turning x e.1 e.2)))
+    let x = c.words_of.result in
+    let e = c.words_of.ensures in
+    let some : c.is_over.result && not c.args.stops ≡ false = cc in
+    put_some c.args.due.now x (Turning c.args.c) c.requires (search rules) c.is_over.ensures c.put_words-2.ensures some e.0 (slot_turning x e.1 e.2)))
