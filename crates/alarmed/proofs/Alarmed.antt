@@ -31,7 +31,7 @@ use Rattle.alarmed.specs.Order.{Passes, none, no, yes, later}
 use Rattle.alarmed.specs.Tests.{Input, settings_bad, too_long, too_short, unopened, input_order}
 use Rattle.alarmed.specs.Alarmed.{at_first, first_of, lines_of, refuses, ReadTo, all, ended, task_to, main_in, begins, Stands, input, line, main, run, list, answered}
 use Rattle.alarmed.proofs.Lines.{Came, read_from, came}
-use Rattle.alarmed.proofs.Lines as lines_of
+use Rattle.alarmed.proofs.Lines as line_laws
 use Rattle.alarmed.proofs.Never.{never_returns}
 use Rattle.alarmed.proofs.Walks.{CameTo, program_walks}
 

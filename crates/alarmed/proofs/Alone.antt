@@ -139,6 +139,7 @@ module _ (i : Input) where
   early_alarm (later a (yes b h)) = rw (a, b) (ap (λ (m : ℕ). refused m 0) (sym h))
   early_alarm (later a (later b (yes c h))) = rw (a, b, c) (ap (λ (m : ℕ). refused m 0) (sym h))
   early_alarm (later a (later b (later c (yes d h)))) = rw (a, b, c, opens i.tape ∙ not-true (any_of opens_tape i.tape) d) (ap (λ (m : ℕ). refused m 0) (sym h))
+  early_alarm (later a (later b (later c (later _ h)))) = elim h [ ]
 
   read_to : {end : ℕ} → ReadTo i end → lines_read ≡ read.Whole (first_of i.tape) end
   read_to (all a) = accepted_all i (first_of i.tape) (length i.tape) nothing_filled refl a

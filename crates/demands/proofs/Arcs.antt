@@ -59,7 +59,7 @@ use Rattle.demands.specs.Arcs.{ArcsOwed, ArcsOwedIn, ArcPromise, ArcPromiseInBuf
 use Rattle.demands.proofs.Buffers.{every_read}
 use Rattle.demands.proofs.Demands.{every_run, each_from}
 use Rattle.demands.proofs.Holding.{all_owed}
-use Rattle.demands.proofs.DeedKinds.{OfKinds, Told, cycle-each, deed-told}
+use Rattle.demands.proofs.DeedKinds.{OfKinds, Told, cycle_each, deed_told}
 use Rattle.demands.proofs.Linked.{free_own, program_leads}
 use Rattle.demands.proofs.Results.{every_result}
 use Rattle.demands.proofs.Standing.{block_stands}

@@ -86,15 +86,15 @@ module _ (P : Record → Type 0) (h : OfKinds P) where
   unfolding turn.turning
   turning_each c = turn_passes (turn.pass_for c) _ c.infeed.start (turn.row c)
 
-  thread_passes_each : (p : thread_passes.Pass) (ls : List ℤ) → Every P (thread_of_lem.passes p ls)
-  unfolding thread_of_lem.passes thread_of_lem.pass_on
+  thread_passes_each : (p : thread_passes.Pass) (ls : List ℤ) → Every P (thread_of.passes p ls)
+  unfolding thread_of.passes thread_of.pass_on
   thread_passes_each p [] = tt
   thread_passes_each p (l ∷ ls) =
       (rapid_to_lem p.facing l p.home, (thread_to_lem p.facing p.pitch l p.end, (rapid_to_lem p.facing p.from p.end, (rapid_to_lem p.facing p.from p.home, thread_passes_each p ls))))
 
-  threading_each : (t : Thread) → Every P (thread_of_lem.threading t)
-  unfolding thread_of_lem.threading
-  threading_each t = thread_passes_each (thread_of_lem.pass_for t) _
+  threading_each : (t : Thread) → Every P (thread_of.threading t)
+  unfolding thread_of.threading
+  threading_each t = thread_passes_each (thread_of.pass_for t) _
 
   grooving_each : (g : Groove) → groove.wrong g ≡ false → Every P (groove.grooving g)
   grooving_each g e =

@@ -6,7 +6,7 @@ use Prim.Native.Nat.{ℕ, zero, suc}
 use lib.IntN.{ℤ}
 use Rattle.runbounds.specs.of_resuming.Handed.{Left}
 use Rattle.runbounds.specs.of_resuming.Handed as left
-use Rattle.runbounds.proofs.of_resuming.Answers.{first, others}
+use Rattle.runbounds.proofs.of_resuming.Answering.{first, others}
 use Rattle.packing.specs.declared.Told.{Told}
 use Rattle.onemove.specs.OneMove.{Holds, Hands, Lawful, InTurn}
 

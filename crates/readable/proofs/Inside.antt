@@ -34,7 +34,7 @@ use Rattle.deeds.specs.declared.Deed.TheVariants as deed
 use Rattle.scaling.specs.declared.Sending.{Sending}
 use Rattle.deeds.proofs.Made.{Starts}
 use Rattle.asking.specs.Judge.{asks_of, doing}
-use Rattle.demands.proofs.DeedKinds.{Told, cycle-each}
+use Rattle.demands.proofs.DeedKinds.{Told, cycle_each}
 use Rattle.readable.proofs.Usual.{Usual, usual_kinds, arc_right}
 
 abbrev pub Inside : Record → Type 0

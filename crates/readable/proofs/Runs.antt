@@ -39,7 +39,7 @@ use Rattle.demands.specs.of_interpreter.Answers.{Result, main_at, refused, resul
 use Rattle.settings.specs.Points.{with_points}
 use Rattle.demands.specs.Demands.{IsList}
 use Rattle.demands.specs.Steps.{Linked}
-use Rattle.demands.proofs.DeedKinds.{deed-told}
+use Rattle.demands.proofs.DeedKinds.{deed_told}
 use Rattle.demands.proofs.Linked.{free_own, program_leads}
 use Rattle.demands.proofs.Results.{every_result}
 use Rattle.demands.proofs.Holding.{demand_two}

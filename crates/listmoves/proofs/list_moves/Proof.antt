@@ -9,13 +9,13 @@ use Rattle.listmoves.proofs.list_moves.Tie as tie
 
 returns : tie.Need-returns
 returns c =
-    let p = c.before.before in
-    let i = p.before.before.before.before.before in
-    let t = i.before.before.before.before in
-    let b = t.before in
-    let n = b.before in
-    let s = n.before.before.before in
-    listed s.args.tape.now n.no-offsets.ensures t.of-listmoves.ensures (length-replicate {A = ℕ} most_places 1) b.fresh-buffer.ensures (i.interpret.ensures.0, i.interpret.ensures.1.1) s.args.out.now s.requires p.put-listing.ensures
+    let p = c in
+    let i = p in
+    let t = i in
+    let b = t in
+    let n = b in
+    let s = n in
+    listed s.args.tape.now n.no_offsets-table.ensures t.of_listmoves-set.ensures (length-replicate {A = ℕ} most_places 1) b.fresh_buffer-buf.ensures (i.interpret-answer.ensures.0, i.interpret-answer.ensures.1.1) s.args.out.now s.requires p.put_listing.ensures
 
 pub list_moves_spec : {M : Type 1} → statement M
 list_moves_spec =

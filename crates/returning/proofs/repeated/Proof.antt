@@ -11,7 +11,7 @@ use Rattle.returning.proofs.repeated.Tie as tie
 
 returns : tie.Need-returns
 returns c =
-    let a = c.before.before.before.before.before.before.before.args in
+    let a = c.args in
     ap
     (λ (f : Frame).
     record {
@@ -22,7 +22,7 @@ returns c =
       end = a.g.end;
       filled = a.g.filled;
     })
-    c.entry_of.ensures
+    c.entry_of-entry.ensures
 
 pub repeated_spec : {M : Type 1} → statement M
 repeated_spec =

@@ -6,27 +6,27 @@ use Rattle.runwords.proofs.Tags.{running_laid, complete_laid, stopped_laid, smal
 use Rattle.runlaid.proofs.phase_words.Statement.{statement}
 use Rattle.runlaid.proofs.phase_words.Tie as tie
 
-word_of_requires : tie.Need-word-of-requires
-word_of_requires c κs = small_in c.before.before.before.before.before.before.requires (c.before.before.before.before.phase.given.1 ∙ ap Over c.before.answer.given.1)
+word_of_requires : tie.Need-word_of-requires
+word_of_requires c κs = small_in c.requires (c.in-Over.is ∙ ap Over c.in-Complete.is)
 
-word_of_requires_2 : tie.Need-word-of-requires-2
-word_of_requires_2 c κs = let a = c.before.before in (small_in a.before.before.before.before.before.requires (a.before.before.before.phase.given.1 ∙ ap Over a.answer2.given.1)).0
+word_of_requires_2 : tie.Need-word_of-requires-in-Alarm
+word_of_requires_2 c κs = let a = c in (small_in a.requires (a.in-Over.is ∙ ap Over a.in-Alarm.is)).0
 
-word_of_requires_3 : tie.Need-word-of-requires-3
-word_of_requires_3 c κs = let a = c.before.before.before in (small_in a.before.before.before.before.before.requires (a.before.before.before.phase.given.1 ∙ ap Over a.answer2.given.1)).1
+word_of_requires_3 : tie.Need-word_of-requires-in-Alarm-2
+word_of_requires_3 c κs = let a = c in (small_in a.requires (a.in-Over.is ∙ ap Over a.in-Alarm.is)).1
 
-returns : tie.Need-returns
-returns c = running_laid c.enum_told.given.1
+returns : tie.Need-returns-in-Running
+returns c = running_laid c.in-Running.is
 
-returns_2 : tie.Need-returns-2
+returns_2 : tie.Need-returns-in-Complete
 returns_2 c =
-    let a = c.before.before in
-    complete_laid (a.before.before.before.phase.given.1 ∙ ap Over a.answer.given.1) c.word_of.ensures
+    let a = c in
+    complete_laid (a.in-Over.is ∙ ap Over a.in-Complete.is) c.word_of.ensures
 
-returns_3 : tie.Need-returns-3
+returns_3 : tie.Need-returns-in-Alarm
 returns_3 c =
-    let a = c.before.before.before.before in
-    stopped_laid (a.before.before.before.phase.given.1 ∙ ap Over a.answer2.given.1) c.before.before.alarm-word.ensures c.before.word-of2.ensures c.word-of3.ensures
+    let a = c in
+    stopped_laid (a.in-Over.is ∙ ap Over a.in-Alarm.is) c.alarm_word-alarm.ensures c.word_of-in-Alarm.ensures c.word_of-in-Alarm-2.ensures
 
 pub phase_words_spec : {M : Type 1} → statement M
 phase_words_spec =

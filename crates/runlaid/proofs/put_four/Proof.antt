@@ -7,7 +7,7 @@ use Rattle.runlaid.proofs.put_four.Statement.{statement}
 use Rattle.runlaid.proofs.put_four.Tie as tie
 
 returns : tie.Need-returns
-returns c = four_put c.args.words.now c.args.at c.args.t3 (search rules) (search rules)
+returns c = four_put c.args.words.now c.args.at c.args.four (search rules) (search rules)
 
 pub put_four_spec : {M : Type 1} → statement M
 put_four_spec =

@@ -18,23 +18,23 @@ same_z_lem s = search rules
 
 returns : tie.Need-returns
 returns c =
-    let third = c.before.before in
-    let z = third.before.before in
-    let x = z.before.before in
-    let due = x.before.before in
-    let second = due.before.before.before in
-    let g95 = second.before.before in
-    let first = g95.before.before.before in
-    let g96 = first.before.before in
-    let count = g96.before.before in
-    let s = count.before.before.before in
+    let third = c in
+    let z = third in
+    let x = z in
+    let due = x in
+    let second = due in
+    let g95 = second in
+    let first = g95 in
+    let g96 = first in
+    let count = g96 in
+    let s = count in
     let r = s.args.run in
-    let word_x = x.signed_word.ensures.0 ∙ ap signed_word (same_x s) in
-    let word_z = z.signed-word2.ensures.0 ∙ ap signed_word (same_z_lem s) in (
-      run_put r s.requires.0 first.put_four.ensures second.put-four2.ensures third.put-four3.ensures count.word_of.ensures g96.before.kept-tag.ensures g96.yes-word.ensures g95.yes-word2.ensures due.yes-word3.ensures word_x word_z,
+    let word_x = x.signed_word-x.ensures.0 ∙ ap signed_word (same_x s.before.before.before.before.before.before.before.before.before.before.before.before.before.before.before.before.before.before.before.before.before.before.before) in
+    let word_z = z.signed_word-z.ensures.0 ∙ ap signed_word (same_z_lem s.before.before.before.before.before.before.before.before.before.before.before.before.before.before.before.before.before.before.before.before.before.before.before) in (
+      run_put r s.requires.0 first.put_four.ensures second.put_four-2.ensures third.put_four-3.ensures count.word_of-count.ensures g96.kept_tag-motion.ensures g96.yes_word-g96.ensures g95.yes_word-g95.ensures due.yes_word-due.ensures word_x word_z,
       record {
-        x = sym (ap signed_of word_x) ∙ x.signed_word.ensures.1 ∙ same_x s;
-        z = sym (ap signed_of word_z) ∙ z.signed-word2.ensures.1 ∙ same_z_lem s;
+        x = sym (ap signed_of word_x) ∙ x.signed_word-x.ensures.1 ∙ same_x s.before.before.before.before.before.before.before.before.before.before.before.before.before.before.before.before.before.before.before.before.before.before.before;
+        z = sym (ap signed_of word_z) ∙ z.signed_word-z.ensures.1 ∙ same_z_lem s.before.before.before.before.before.before.before.before.before.before.before.before.before.before.before.before.before.before.before.before.before.before.before;
       },
     )
 

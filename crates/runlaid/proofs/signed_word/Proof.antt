@@ -10,10 +10,10 @@ use Rattle.runlaid.proofs.signed_word.Tie as tie
 
 returns : tie.Need-returns
 returns c =
-    let b = c.before in
-    let f = b.before.ranges.v in
-    let e = c.u32-of-bytes.ensures ∙ ap value_of b.bytes-of-i32.ensures ∙ ap signed_word (to_z-of_z f) in
-    (e, ap signed_of e ∙ signed_read_back b.before.args.v f)
+    let b = c in
+    let f = b.ranges.v in
+    let e = c.u32_of_bytes.ensures ∙ ap value_of b.bytes_of_i32.ensures ∙ ap signed_word (to_z-of_z f) in
+    (e, ap signed_of e ∙ signed_read_back b.args.v f)
 
 pub signed_word_spec : {M : Type 1} → statement M
 signed_word_spec =

@@ -8,9 +8,9 @@ use Rattle.runwords.proofs.frame_of.Tie as tie
 
 returns : tie.Need-returns
 returns c =
-    let line = c.before.before.before in
-    let w : List ℕ = line.before.before.before.before.args.words.now in
-    λ i. record { program = record { number = word w 6; line = line.place_of.ensures i }; calls_left = word w 8; at = c.place-of2.ensures i }
+    let line = c in
+    let w : List ℕ = line.args.words.now in
+    λ i. record { program = record { number = word w 6; line = line.place_of.ensures i }; calls_left = word w 8; at = c.place_of-2.ensures i }
 
 pub frame_of_spec : {M : Type 1} → statement M
 frame_of_spec =

@@ -7,16 +7,16 @@ use Rattle.runwords.proofs.going_of.Tie as tie
 returns : tie.Need-returns
 unfolding going_of
 returns c =
-    let e = c.before.before in
-    let p = e.before.before in
+    let e = c in
+    let p = e in
     λ i.
     record {
-      frame = p.before.before.before.frame-of.ensures i;
-      run = p.before.before.run_of.ensures i;
-      waiting = p.before.waiting-of.ensures i;
-      phase = p.phase-of.ensures i;
+      frame = p.frame_of.ensures i;
+      run = p.run_of.ensures i;
+      waiting = p.waiting_of.ensures i;
+      phase = p.phase_of.ensures i;
       end = e.place_of.ensures i;
-      filled = c.place-of2.ensures i;
+      filled = c.place_of-2.ensures i;
     }
 
 pub going_of_spec : {M : Type 1} → statement M

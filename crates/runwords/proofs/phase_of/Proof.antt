@@ -8,25 +8,25 @@ use Rattle.runwords.proofs.phase_of.Statement.{statement}
 use Rattle.runwords.proofs.phase_of.Tie as tie
 
 -- the words, where the last of them is read
-abbrev words : tie.After-place-of2 → List ℕ
-words c = c.before.before.before.before.before.before.before.before.args.words.now
+abbrev words : tie.After-place_of-count → List ℕ
+words c = c.args.words.now
 
-returns : tie.Need-returns
+returns : tie.Need-returns-in-1
 returns c =
-    let p = c.before in
-    let w = words p in
-    complete_so (word w 1) (word w 2) (word w 3) c.match.keys1 p.place-of2.ensures
+    let p = c in
+    let w = words p.before in
+    complete_so (word w 1) (word w 2) (word w 3) c.in-1.is p.place_of-count.ensures
 
-returns_2 : tie.Need-returns-2
+returns_2 : tie.Need-returns-in-2
 returns_2 c =
-    let p = c.before in
-    let w = words p in
-    stopped_so (word w 1) (word w 2) (word w 3) c.match.keys2 p.before.before.before.before.alarm-of.ensures p.before.before.place_of.ensures p.place-of2.ensures
+    let p = c in
+    let w = words p.before in
+    stopped_so (word w 1) (word w 2) (word w 3) c.in-2.is p.alarm_of-alarm.ensures p.place_of-place.ensures p.place_of-count.ensures
 
-returns_3 : tie.Need-returns-3
+returns_3 : tie.Need-returns-in_default
 returns_3 c =
     let w = words c.before in
-    running_so (word w 1) (word w 2) (word w 3) c.match.rest.0.1 c.match.rest.1
+    running_so (word w 1) (word w 2) (word w 3) c.in_default.in_default-own.rest.0.1 c.in_default.in_default-own.rest.1
 
 pub phase_of_spec : {M : Type 1} → statement M
 phase_of_spec =

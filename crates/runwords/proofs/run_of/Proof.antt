@@ -8,9 +8,9 @@ use Rattle.runwords.proofs.run_of.Tie as tie
 
 returns : tie.Need-returns
 returns c =
-    let s = c.before.before.before in
-    let w : List ℕ = s.before.before.args.words.now in
-    λ i. record { state = s.state-of.ensures i; blocks_left = word w 10; count = c.place_of.ensures i }
+    let s = c in
+    let w : List ℕ = s.args.words.now in
+    λ i. record { state = s.state_of.ensures i; blocks_left = word w 10; count = c.place_of.ensures i }
 
 pub run_of_spec : {M : Type 1} → statement M
 run_of_spec =

@@ -11,9 +11,9 @@ use Rattle.runwords.proofs.signed_of.Tie as tie
 
 returns : tie.Need-returns
 returns c =
-    let b = c.before in
-    let same : to_z w32 (of_z w32 c.i32-of-bytes.result) ≡ c.i32-of-bytes.result = search rules in
-    same ∙ c.i32-of-bytes.ensures ∙ ap (λ l. signed_of (value_of l)) b.bytes-of-u32.ensures ∙ ap signed_of (read_back 4 b.before.args.word (omega arith))
+    let b = c in
+    let same : to_z w32 (of_z w32 c.i32_of_bytes.result) ≡ c.i32_of_bytes.result = search rules in
+    same ∙ c.i32_of_bytes.ensures ∙ ap (λ l. signed_of (value_of l)) b.bytes_of_u32.ensures ∙ ap signed_of (read_back 4 b.args.word (omega arith))
 
 pub signed_of_spec : {M : Type 1} → statement M
 signed_of_spec =

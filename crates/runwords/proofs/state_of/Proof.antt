@@ -11,16 +11,16 @@ use Rattle.runwords.proofs.state_of.Tie as tie
 
 returns : tie.Need-returns
 returns c =
-    let x = c.before.before in
-    let m = x.before.before.before.before.before.before.before.before.before in
-    let w : List ℕ = m.before.before.before.args.words.now in
-    let same_x : to_z w32 (of_z w32 x.Signed-of.result) ≡ x.Signed-of.result = search rules in
-    let same_z_lem : to_z w32 (of_z w32 c.signed-of2.result) ≡ c.signed-of2.result = search rules in
-    let at_x = same_x ∙ x.Signed-of.ensures in
-    let at_z = same_z_lem ∙ c.signed-of2.ensures in
+    let x = c in
+    let m = x in
+    let w : List ℕ = m.args.words.now in
+    let same_x : to_z w32 (of_z w32 x.signed_of.result) ≡ x.signed_of.result = search rules in
+    let same_z_lem : to_z w32 (of_z w32 c.signed_of-2.result) ≡ c.signed_of-2.result = search rules in
+    let at_x = same_x ∙ x.signed_of.ensures in
+    let at_z = same_z_lem ∙ c.signed_of-2.ensures in
     λ i.
     record {
-      motion = m.motion-of.ensures i;
+      motion = m.motion_of.ensures i;
       g96 = is_yes (word w 13);
       g95 = is_yes (word w 14);
       shift_group3 = word w 15;

@@ -9,11 +9,11 @@ use Rattle.runwords.proofs.waiting_at.Tie as tie
 
 returns : tie.Need-returns
 returns c =
-    let line = c.before.before.before in
-    let s = line.before.before.before.before in
+    let line = c in
+    let s = line in
     let w : List ℕ = s.args.words.now in
     let from : ℕ = waiting_from + s.args.k * waiting_words in
-    λ i. record { program = record { number = word w from; line = line.place_of.ensures i }; after = c.before.place-of2.ensures i; times = word w (from + 3) }
+    λ i. record { program = record { number = word w from; line = line.place_of.ensures i }; after = c.place_of-2.ensures i; times = word w (from + 3) }
 
 pub waiting_at_spec : {M : Type 1} → statement M
 waiting_at_spec =

@@ -7,28 +7,28 @@ use Rattle.starting.proofs.Begun.{begun_missing, begun_found}
 use Rattle.starting.proofs.begin.Statement.{statement}
 use Rattle.starting.proofs.begin.Tie as tie
 
-returns : tie.Need-returns
+returns : tie.Need-returns-in_default
 returns c =
-    let f = c.before.before.before in
-    let s = f.before.before.before in
+    let f = c in
+    let s = f in
     let a = s.args in
-    begun_missing a.tape.now a.set a.filled (f.find-program.ensures s.requires.1) c.before.enum_told.given.1 c.refused.ensures
+    begun_missing a.tape.now a.set a.filled (f.find_program-found.ensures s.requires.1) c.in_default.is c.refused.ensures
 
-entry_of_requires : tie.Need-entry-of-requires
+entry_of_requires : tie.Need-entry_of-frame-requires
 entry_of_requires c κs =
-    let f = c.before.before in
-    let a = f.before.before.before.before.before.args in
-    omega (arith, c.within.ensures, within_fits (length a.tape.now) f.found.given.0.0)
+    let f = c in
+    let a = f.args in
+    omega (arith, c.within-line.ensures, within_fits (length a.tape.now) f.in-At.p)
 
-returns_2 : tie.Need-returns-2
+returns_2 : tie.Need-returns
 returns_2 c =
-    let e = c.before.before in
-    let w = e.before in
-    let o = w.before.before in
-    let f = o.before.before in
-    let s = f.before.before.before in
+    let e = c in
+    let w = e in
+    let o = w in
+    let f = o in
+    let s = f in
     let a = s.args in
-    begun_found a.tape.now a.set a.filled (f.find-program.ensures s.requires.1) o.found.given.0.0 o.found.given.1 w.within.ensures e.entry_of.ensures c.before.start_of.ensures c.standing.ensures
+    begun_found a.tape.now a.set a.filled (f.find_program-found.ensures s.requires.1) o.in-At.p o.in-At.is w.within-line.ensures e.entry_of-frame.ensures c.start_of.ensures c.standing.ensures
 
 pub begin_spec : {M : Type 1} → statement M
 begin_spec =

@@ -8,58 +8,58 @@ use Rattle.starting.proofs.start.Statement.{statement}
 use Rattle.starting.proofs.start.Tie as tie
 
 -- the settings are right
-fine : (c : tie.Else1) → let a = c.before.before.before.before.args in settings_wrong a.table.now a.set ≡ false
-fine c = sym c.before.settings-wrong.ensures ∙ c.if1.false
+fine : (c : tie.Else-settings_wrong) → let a = c.args in settings_wrong a.table.now a.set ≡ false
+fine c = sym c.settings_wrong.ensures ∙ c.if-settings_wrong.false
 
-returns : tie.Need-returns
+returns : tie.Need-returns-then-settings_wrong
 returns c =
-    let a = c.before.before.before.before.before.args in
-    let h = sym c.before.before.settings-wrong.ensures ∙ c.before.if1.true in
+    let a = c.args in
+    let h = sym c.settings_wrong.ensures ∙ c.if-settings_wrong.true in
     (wrong_settings a.tape.now a.table.now a.set a.places.now h c.refused.ensures, wrong_kept a.tape.now a.table.now a.set a.places.now h)
 
-returns_2 : tie.Need-returns-2
+returns_2 : tie.Need-returns-then-tape-gt-LONGEST_TAPE
 returns_2 c =
-    let i = c.before in
-    let a = i.before.before.before.before.before.args in
-    let h = fine i.before in
-    (long_tape a.tape.now a.table.now a.set a.places.now h i.if2.true c.refused2.ensures, long_kept a.tape.now a.table.now a.set a.places.now h i.if2.true)
+    let i = c in
+    let a = i.args in
+    let h = fine i.before.before in
+    (long_tape a.tape.now a.table.now a.set a.places.now h i.if-tape-gt-LONGEST_TAPE.true c.refused-then-tape-gt-LONGEST_TAPE.ensures, long_kept a.tape.now a.table.now a.set a.places.now h i.if-tape-gt-LONGEST_TAPE.true)
 
-slice_aggregate_lines : tie.Need-slice-aggregate-lines
+slice_aggregate_lines : tie.Need-slice_bounds-lines-end
 slice_aggregate_lines c =
-    let m = c.before.before in
-    let t = m.before.before.before.before in
-    let e = t.before.before in
-    let a = e.before.before.before.before.before.args in
-    cut_size a.tape.now a.table.now a.set a.places.now (fine e.before) e.if2.false t.read-tape.ensures.0.is t.read-tape.ensures.1 m.read2.given.0.0 m.read2.given.0.1.0 m.read2.given.1
+    let m = c in
+    let t = m in
+    let e = t in
+    let a = e.args in
+    cut_size a.tape.now a.table.now a.set a.places.now (fine e.before.before.before.before.before.before) e.if-tape-gt-LONGEST_TAPE.false t.read_tape-told.ensures.0.is t.read_tape-told.ensures.1 m.in-Whole.field-0 m.in-Whole.end m.in-Whole.is
 
 begin_requires : tie.Need-begin-requires
 begin_requires c κs =
-    let m = c.before.before.before in
-    let t = m.before.before.before.before in
-    let e = t.before.before in
-    let a = e.before.before.before.before.before.args in
-    begin_needs a.tape.now a.table.now a.set a.places.now (fine e.before) e.if2.false t.read-tape.ensures.0.is t.read-tape.ensures.1 m.read2.given.0.0 m.read2.given.0.1.0 m.read2.given.1
+    let m = c in
+    let t = m in
+    let e = t in
+    let a = e.args in
+    begin_needs a.tape.now a.table.now a.set a.places.now (fine e.before.before.before.before.before.before) e.if-tape-gt-LONGEST_TAPE.false t.read_tape-told.ensures.0.is t.read_tape-told.ensures.1 m.in-Whole.field-0 m.in-Whole.end m.in-Whole.is
 
-returns_3 : tie.Need-returns-3
+returns_3 : tie.Need-returns-in-Alarm
 returns_3 c =
-    let m = c.before.before in
-    let t = m.before.before.before.before in
-    let e = t.before.before in
-    let a = e.before.before.before.before.before.args in
-    let h = fine e.before in (
-      read_refused a.tape.now a.table.now a.set a.places.now h e.if2.false t.read-tape.ensures.0.is t.read-tape.ensures.1 m.read.given.0.0 m.read.given.0.1.0 m.read.given.1 c.refused3.ensures,
-      read_filled a.tape.now a.table.now a.set a.places.now h e.if2.false t.read-tape.ensures.0.is t.read-tape.ensures.1,
+    let m = c in
+    let t = m in
+    let e = t in
+    let a = e.args in
+    let h = fine e.before.before.before.before.before.before.before in (
+      read_refused a.tape.now a.table.now a.set a.places.now h e.if-tape-gt-LONGEST_TAPE.false t.read_tape-told.ensures.0.is t.read_tape-told.ensures.1 m.in-Alarm.alarm m.in-Alarm.place m.in-Alarm.is c.refused-in-Alarm.ensures,
+      read_filled a.tape.now a.table.now a.set a.places.now h e.if-tape-gt-LONGEST_TAPE.false t.read_tape-told.ensures.0.is t.read_tape-told.ensures.1,
     )
 
-returns_4 : tie.Need-returns-4
+returns_4 : tie.Need-returns-in-Whole
 returns_4 c =
-    let m = c.before.before.before.before in
-    let t = m.before.before.before.before in
-    let e = t.before.before in
-    let a = e.before.before.before.before.before.args in
-    let h = fine e.before in (
-      read_begun a.tape.now a.table.now a.set a.places.now h e.if2.false t.read-tape.ensures.0.is t.read-tape.ensures.1 m.read2.given.0.0 m.read2.given.0.1.0 m.read2.given.1 c.begin.ensures,
-      read_filled a.tape.now a.table.now a.set a.places.now h e.if2.false t.read-tape.ensures.0.is t.read-tape.ensures.1,
+    let m = c in
+    let t = m in
+    let e = t in
+    let a = e.args in
+    let h = fine e.before.before.before.before.before.before.before in (
+      read_begun a.tape.now a.table.now a.set a.places.now h e.if-tape-gt-LONGEST_TAPE.false t.read_tape-told.ensures.0.is t.read_tape-told.ensures.1 m.in-Whole.field-0 m.in-Whole.end m.in-Whole.is c.begin.ensures,
+      read_filled a.tape.now a.table.now a.set a.places.now h e.if-tape-gt-LONGEST_TAPE.false t.read_tape-told.ensures.0.is t.read_tape-told.ensures.1,
     )
 
 pub start_spec : {M : Type 1} → statement M
