@@ -17,84 +17,84 @@ front : (s : tie.Start) → length (due_in s.args.state.now) ≡ due_words
 front s = length_due s.args.state.now s.requires.0
 
 -- what was read of the words
-abbrev start : tie.After-origin-of → tie.Start
-start n = n.before.before.before.before.before.before.before.before.before.before.before
+abbrev start : tie.After-origin_of-origin → tie.Start
+start n = n.before.before.before.before.before.before.before.before.before
 
-read_of : (n : tie.After-origin-of) → Read (start n).args.state.now n.before.before.before.before.before.before.before.slot_of.result n.before.before.before.before.due-of.result n.before.plan-of.result n.origin-of.result
+read_of : (n : tie.After-origin_of-origin) → Read (start n).args.state.now n.slot_of-slot.result n.due_of-due.result n.plan_of-plan.result n.origin_of-origin.result
 read_of n =
-    let plan = n.before in
-    let due = plan.before.before.before in
-    let slot = due.before.before.before in
-    record { slot = slot.slot_of.ensures; due = due.due-of.ensures; plan = plan.plan-of.ensures; origin = n.origin-of.ensures }
+    let plan = n in
+    let due = plan in
+    let slot = due in
+    record { slot = slot.slot_of-slot.ensures; due = due.due_of-due.ensures; plan = plan.plan_of-plan.ensures; origin = n.origin_of-origin.ensures }
 
-fits : (n : tie.After-origin-of) → Fits n.before.before.before.before.before.before.before.slot_of.result
+fits : (n : tie.After-origin_of-origin) → Fits n.slot_of-slot.result
 fits n =
-    let tested = n.before.before.before.before.before in
-    tested.before.is-fit.ensures.0 (not-false _ tested.if1.false)
+    let tested = n in
+    tested.is_fit.ensures.0 tested.if-not-is_fit.false
 
-abbrev origin_at_lem : tie.After-is-over2 → tie.After-origin-of
+abbrev origin_at_lem : tie.After-is_over-2 → tie.After-origin_of-origin
 origin_at_lem c = c.before.before.before.before.before.before.before.before.before
 
-slice_aggregate_part : tie.Need-slice-aggregate-part
-slice_aggregate_part c = sym (front c.before.before.before)
+slice_aggregate_part : tie.Need-slice_bounds-part-end-2
+slice_aggregate_part c = sym (front c.before.before)
 
-slot_of_requires : tie.Need-slot-of-requires
-slot_of_requires c κs = front c.before.before.before
+slot_of_requires : tie.Need-slot_of-slot-requires
+slot_of_requires c κs = front c.before.before
 
-returns : tie.Need-returns
+returns : tie.Need-returns-then-not-is_fit
 returns c =
-    let fit = c.before in
-    let slot = fit.before in
-    let s = slot.before.before.before.before in
-    unfit s.args.state.now s.args.«record».now s.requires.1 slot.slot_of.result slot.slot_of.ensures
-    (λ f. never (sym (not-true _ c.if1.true) ∙ fit.is-fit.ensures.1 f))
+    let fit = c in
+    let slot = fit in
+    let s = slot in
+    unfit s.args.state.now s.args.«record».now s.requires.1 slot.slot_of-slot.result slot.slot_of-slot.ensures
+    (λ f. never (sym c.if-not-is_fit.true ∙ fit.is_fit.ensures.1 f))
 
-due_of_requires : tie.Need-due-of-requires
-due_of_requires c κs = front c.before.before.before.before.before.before
+due_of_requires : tie.Need-due_of-due-requires
+due_of_requires c κs = front c.before.before.before.before.before
 
-returns_2 : tie.Need-returns-2
+returns_2 : tie.Need-returns-then-is_over
 returns_2 c =
-    let n = c.before.before in
-    let s = start n in
-    none_left s.args.state.now s.args.«record».now s.pre.1 (read_of n) (sym c.before.is-over.ensures ∙ c.if2.true)
+    let n = c in
+    let s = start n.before.before in
+    none_left s.args.state.now s.args.«record».now s.requires.1 (read_of n.before.before) (sym c.is_over.ensures ∙ c.if-is_over.true)
 
-next_requires : tie.Need-next-requires
+next_requires : tie.Need-next-handed-requires
 next_requires c κs =
-    let n = c.before.before in
-    (read_sound (read_of n) (fits n), sym c.before.is-over.ensures ∙ c.if2.false)
+    let n = c in
+    (read_sound (read_of n.before.before) (fits n.before.before), sym c.is_over.ensures ∙ c.if-is_over.false)
 
-put_record_requires : tie.Need-put-record-requires
+put_record_requires : tie.Need-put_record-requires
 put_record_requires c κs = (start c.before.before.before.before.before).requires.2
 
-put_nothing_requires : tie.Need-put-nothing-requires
+put_nothing_requires : tie.Need-put_nothing-requires
 put_nothing_requires c κs = (start (origin_at_lem c.before.before)).requires.0
 
-returns_3 : tie.Need-returns-3
+returns_3 : tie.Need-returns-then-is_over-2
 returns_3 c =
-    let put = c.before.before in
-    let branch = put.before.before in
-    let over = branch.before in
-    let laid = over.before.before.before in
-    let next = laid.before.before.before in
-    let n = next.before.before.before in
-    let s = start n in
-    last s.args.state.now s.args.«record».now s.pre.1 (read_of n) _ _ next.next.ensures (read_sound (read_of n) (fits n)) (sym next.before.before.is-over.ensures ∙ next.before.if2.false) (sym over.is-over2.ensures ∙ branch.if3.true)
-    put.put-nothing.ensures laid.put_record.ensures
+    let put = c in
+    let branch = put in
+    let over = branch in
+    let laid = over in
+    let next = laid in
+    let n = next in
+    let s = start n.before.before.before.before.before.before.before.before.before.before.before.before.before.before in
+    last s.args.state.now s.args.«record».now s.requires.1 (read_of n.before.before.before.before.before.before.before.before.before.before.before.before.before.before) _ _ next.next-handed.ensures (read_sound (read_of n.before.before.before.before.before.before.before.before.before.before.before.before.before.before) (fits n.before.before.before.before.before.before.before.before.before.before.before.before.before.before)) (sym next.is_over.ensures ∙ next.if-is_over.false) (sym over.is_over-2.ensures ∙ branch.if-is_over-2.true)
+    put.put_nothing.ensures laid.put_record.ensures
 
-put_due_requires : tie.Need-put-due-requires
+put_due_requires : tie.Need-put_due-requires
 put_due_requires c κs = (start (origin_at_lem c.before.before)).requires.0
 
-returns_4 : tie.Need-returns-4
+returns_4 : tie.Need-returns
 returns_4 c =
-    let put = c.before.before in
-    let branch = put.before.before in
-    let over = branch.before in
-    let laid = over.before.before.before in
-    let next = laid.before.before.before in
-    let n = next.before.before.before in
-    let s = start n in
-    more s.args.state.now s.args.«record».now s.pre.1 (read_of n) _ _ next.next.ensures (read_sound (read_of n) (fits n)) (sym next.before.before.is-over.ensures ∙ next.before.if2.false) (sym over.is-over2.ensures ∙ branch.if3.false)
-    put.put-due.ensures laid.put_record.ensures
+    let put = c in
+    let branch = put in
+    let over = branch in
+    let laid = over in
+    let next = laid in
+    let n = next in
+    let s = start n.before.before.before.before.before.before.before.before.before.before.before.before.before.before in
+    more s.args.state.now s.args.«record».now s.requires.1 (read_of n.before.before.before.before.before.before.before.before.before.before.before.before.before.before) _ _ next.next-handed.ensures (read_sound (read_of n.before.before.before.before.before.before.before.before.before.before.before.before.before.before) (fits n.before.before.before.before.before.before.before.before.before.before.before.before.before.before)) (sym next.is_over.ensures ∙ next.if-is_over.false) (sym over.is_over-2.ensures ∙ branch.if-is_over-2.false)
+    put.put_due.ensures laid.put_record.ensures
 
 pub give_any_spec : {M : Type 1} → statement M
 give_any_spec =

@@ -13,51 +13,51 @@ use Rattle.inhand.proofs.give_next.Tie as tie
 front : (s : tie.Start) → length (due_in s.args.state.now) ≡ due_words
 front s = length_due s.args.state.now s.requires.0
 
-slice_aggregate_give : tie.Need-slice-aggregate-give
-slice_aggregate_give c = sym (front c.before.before.before.before.before.before.before)
+slice_aggregate_give : tie.Need-slice_bounds-give-end-2
+slice_aggregate_give c = sym (front c.before.before.before.before.before.before)
 
-give_requires : tie.Need-give-requires
-give_requires c κs = let s = c.before.before.before.before.before.before.before.before in (front s, s.requires.2)
+give_requires : tie.Need-give-gave-requires
+give_requires c κs = let s = c in (front s.before.before.before.before.before.before.before, s.requires.2)
 
 -- what was asked of the words of what is due
-abbrev start : tie.After-give → tie.Start
-start g = g.before.before.before.before.before.before.before.before.before
+abbrev start : tie.After-give-gave → tie.Start
+start g = g.before.before.before.before.before.before.before.before
 
-asked : (g : tie.After-give) → Asked (start g).args.state.now (start g).args.«record».now g.give.result g.give.new.0 g.give.new.1.0
+asked : (g : tie.After-give-gave) → Asked (start g).args.state.now (start g).args.«record».now g.give-gave.result g.give-gave.new.due g.give-gave.new.record
 asked g =
-    let t = g.before.before.before in
-    let o = t.before in
+    let t = g in
+    let o = t in
     let s = start g in
     record {
-      long = s.pre.0;
-      some = s.pre.1;
-      origin = o.origin-of.result;
-      stops = t.stops-of.result;
-      from = o.origin-of.ensures;
-      stop = t.stops-of.ensures;
-      told = g.give.ensures;
+      long = s.requires.0;
+      some = s.requires.1;
+      origin = o.origin_of-origin.result;
+      stops = t.stops_of-stops.result;
+      from = o.origin_of-origin.ensures;
+      stop = t.stops_of-stops.ensures;
+      told = g.give-gave.ensures;
     }
 
-abbrev give_at : tie.After-slice-known4 → tie.After-give
+abbrev give_at : tie.After-slice_known-4-1 → tie.After-give-gave
 give_at k = k.before.before.before.before
 
-returns : tie.Need-returns
-returns c = cycle_gives (asked (give_at c.before.before)) c.enum_told.given.1
+returns : tie.Need-returns-in-Given
+returns c = cycle_gives (asked (give_at c.before)) c.in-Given.is
 
-returns_2 : tie.Need-returns-2
-returns_2 c = cycle_refuses (asked (give_at c.before.before)) c.enum-told2.given.1
+returns_2 : tie.Need-returns-in-Unfit
+returns_2 c = cycle_refuses (asked (give_at c.before)) c.in-Unfit.is
 
-give_any_requires : tie.Need-give-any-requires
+give_any_requires : tie.Need-give_any-requires
 give_any_requires c κs =
-    let t = c.before.before in
-    let g = give_at t.before.before in
-    any_asked (asked g) t.enum-told3.given.1 (start g).pre.2
+    let t = c in
+    let g = give_at t.before.before.before in
+    any_asked (asked g) t.in-Other.is (start g).requires.2
 
-returns_3 : tie.Need-returns-3
+returns_3 : tie.Need-returns-in-Other
 returns_3 c =
-    let any = c.before.before.before.before in
-    let t = any.before.before.before in
-    any_gives (asked (give_at t.before.before)) t.enum-told3.given.1 any.give-any.ensures
+    let any = c in
+    let t = any in
+    any_gives (asked (give_at t.before.before.before.before.before.before.before.before)) t.in-Other.is any.give_any.ensures
 
 pub give_next_spec : {M : Type 1} → statement M
 give_next_spec =

@@ -15,24 +15,24 @@ both false b e = absurd (never e)
 and_true : {a b : Bool} → a ≡ true → b ≡ true → a && b ≡ true
 and_true {a} {b} e f = rw (e, f) refl
 
-returns : tie.Need-returns
-returns c = let k = c.before in tells_no (λ n. told_no k.is-kept.ensures (not-true _ c.if1.true) n.kept)
+returns : tie.Need-returns-then-not-is_kept
+returns c = let k = c in tells_no (λ n. told_no k.is_kept.ensures c.if-not-is_kept.true n.kept)
 
-returns_2 : tie.Need-returns-2
-returns_2 c = let k = c.before in tells_no (λ n. told_no k.is-fit.ensures (not-true _ c.if2.true) n.state)
+returns_2 : tie.Need-returns-then-not-is_fit
+returns_2 c = let k = c in tells_no (λ n. told_no k.is_fit.ensures c.if-not-is_fit.true n.state)
 
-returns_3 : tie.Need-returns-3
+returns_3 : tie.Need-returns
 returns_3 c =
-    let e = c.before.before.before in
-    let f = e.before in
-    let d = c.before.before.before.before.before.before.before in
-    let k = d.before in
-    let a = c.before.before.before.before.before.before.before.before.before.args in (
+    let e = c in
+    let f = e in
+    let d = c in
+    let k = d in
+    let a = c.args in (
       λ t. let q = both _ _ t in
           let p = both _ _ q.1 in
           record {
-            kept = k.is-kept.ensures.0 (not-false _ d.if1.false);
-            state = f.is-fit.ensures.0 (not-false _ e.if2.false);
+            kept = k.is_kept.ensures.0 d.if-not-is_kept.false;
+            state = f.is_fit.ensures.0 e.if-not-is_fit.false;
             some = ltb-true 0 a.g.end q.0;
             end = leb-true a.g.end a.tape p.0;
             filled = leb-true a.g.filled a.places p.1;

@@ -23,96 +23,96 @@ use Rattle.onemove.proofs.go_on.Statement.{statement}
 use Rattle.onemove.proofs.go_on.Tie as tie
 
 -- the run that the words have
-module _ (k : tie.After-going-of) where
+module _ (k : tie.After-going_of-g) where
   abbrev begun : tie.Start
-  begun = k.before.before.before.before.before.before.before.before.before.before.before.before
+  begun = k.before.before.before.before.before.before.before.before.before.before.before
 
-  is_run : k.going_of.result ≡ run_in begun.args.state.now
-  is_run = k.going_of.ensures ∙ ap going_of (to_end begun.args.state.now 54) ∙ run_is begun.args.state.now
+  is_run : k.going_of-g.result ≡ run_in begun.args.state.now
+  is_run = k.going_of-g.ensures ∙ ap going_of (to_end begun.args.state.now 54) ∙ run_is begun.args.state.now
 
-returns : tie.Need-returns
+returns : tie.Need-returns-then-unfit
 returns c =
-    let s = c.before.before.before.before.before.before in
+    let s = c in
     let a = s.args in
-    unfit_ask a.tape.now a.table.now a.settings.now a.places.now a.state.now a.«record».now s.requires.1 s.requires.2 (sym c.before.unfit.ensures ∙ c.if1.true)
+    unfit_ask a.tape.now a.table.now a.settings.now a.places.now a.state.now a.«record».now s.requires.1 s.requires.2 (sym c.unfit.ensures ∙ c.if-unfit.true)
 
-settings_of_requires : tie.Need-settings-of-requires
-settings_of_requires c κs = all_there c.before.before.before.before.before.before.args.settings.now (sym c.before.unfit.ensures ∙ c.if1.false)
+settings_of_requires : tie.Need-settings_of-set-requires
+settings_of_requires c κs = all_there c.args.settings.now (sym c.unfit.ensures ∙ c.if-unfit.false)
 
-returns_2 : tie.Need-returns-2
+returns_2 : tie.Need-returns-then-settings_wrong
 returns_2 c =
-    let s = c.before.before.before.before.before.before.before.before.before in
+    let s = c in
     let a = s.args in
-    wrong_ask a.tape.now a.table.now a.settings.now a.places.now a.state.now a.«record».now s.requires.1 s.requires.2 c.before.before.settings-of.ensures
-    (sym c.before.settings-wrong.ensures ∙ c.if2.true)
+    wrong_ask a.tape.now a.table.now a.settings.now a.places.now a.state.now a.«record».now s.requires.1 s.requires.2 c.settings_of-set.ensures
+    (sym c.settings_wrong.ensures ∙ c.if-settings_wrong.true)
 
-returns_3 : tie.Need-returns-3
+returns_3 : tie.Need-returns-then-not-can_go_on
 returns_3 c =
-    let k = c.before.before in
-    let s = begun k in
+    let k = c in
+    let s = begun k.before.before in
     let a = s.args in
-    cannot_ask a.tape.now a.table.now a.settings.now a.places.now a.state.now a.«record».now s.pre.1 s.pre.2 (is_run k)
-    (told_no c.before.can-go-on.ensures (not-true _ c.if3.true))
+    cannot_ask a.tape.now a.table.now a.settings.now a.places.now a.state.now a.«record».now s.requires.1 s.requires.2 (is_run k.before.before)
+    (told_no c.can_go_on.ensures c.if-not-can_go_on.true)
 
-slice_aggregate_lines : tie.Need-slice-aggregate-lines
+slice_aggregate_lines : tie.Need-slice_bounds-lines-end
 slice_aggregate_lines c =
-    let o = c.before.before.before in
-    let k = o.before in
-    let n = o.can-go-on.ensures.0 (not-false _ c.before.before.if3.false) in
-    sym (length-take-le k.going_of.result.end (begun k).args.tape.now n.end)
+    let o = c in
+    let k = o in
+    let n = o.can_go_on.ensures.0 c.if-not-can_go_on.false in
+    sym (length-take-le k.going_of-g.result.end (begun k.before.before.before).args.tape.now n.end)
 
 -- what the turns are given
-fine : (e : tie.Else2) → settings_wrong e.before.before.before.before.before.before.before.before.before.args.table.now e.before.before.settings-of.result ≡ false
-fine e = sym e.before.settings-wrong.ensures ∙ e.if2.false
+fine : (e : tie.Else-settings_wrong) → settings_wrong e.args.table.now e.settings_of-set.result ≡ false
+fine e = sym e.settings_wrong.ensures ∙ e.if-settings_wrong.false
 
-advance_requires : tie.Need-advance-requires
+advance_requires : tie.Need-advance-turned-requires
 advance_requires c κs =
-    let o = c.before.before.before in
-    let k = o.before in
-    let s = begun k in
-    let e = k.before.before.before in
-    let n = o.can-go-on.ensures.0 (not-false _ c.before.before.if3.false) in
-    let r = subst (λ (y : Settings). Right s.args.table.now y) (sym c.before.with-points.ensures) (right_points false (right s.args.table.now e.before.before.settings-of.result (fine e))) in (
+    let o = c in
+    let k = o in
+    let s = begun k.before.before.before in
+    let e = k in
+    let n = o.can_go_on.ensures.0 c.if-not-can_go_on.false in
+    let r = subst (λ (y : Settings). Right s.args.table.now y) (sym c.with_points-running.ensures) (right_points false (right s.args.table.now e.settings_of-set.result (fine e.before.before.before.before.before))) in (
       record {
         offsets = r.offsets;
         range = r.range;
         filled = n.filled;
-        read = length-take-le k.going_of.result.end s.args.tape.now n.end;
+        read = length-take-le k.going_of-g.result.end s.args.tape.now n.end;
         state = n.state;
         kept = n.kept;
       },
-      ap (λ (g : Going). g.phase) (is_run k) ∙ s.pre.2,
+      ap (λ (g : Going). g.phase) (is_run k.before.before.before) ∙ s.requires.2,
     )
 
 -- what can be asked of the words
-can_tell : (x : tie.Else3)
+can_tell : (x : tie.Else-not-can_go_on)
     → let a = (begun x.before.before).args in CanTell Running a.tape.now a.table.now a.settings.now a.places.now (run_in a.state.now)
 can_tell x =
-    let k = x.before.before in
-    let a = (begun k).args in
-    let e = k.before.before.before in
-    let u = e.before.before.before in (
-      sym u.before.unfit.ensures ∙ u.if1.false,
-      ap (settings_wrong a.table.now) (sym e.before.before.settings-of.ensures) ∙ fine e,
-      subst (CanGoOn (length a.tape.now) (length a.places.now)) (is_run k) (x.before.can-go-on.ensures.0 (not-false _ x.if3.false)),
+    let k = x in
+    let a = (begun k.before.before).args in
+    let e = k in
+    let u = e in (
+      sym u.unfit.ensures ∙ u.if-unfit.false,
+      ap (settings_wrong a.table.now) (sym e.settings_of-set.ensures) ∙ fine e.before.before.before.before,
+      subst (CanGoOn (length a.tape.now) (length a.places.now)) (is_run k.before.before) (x.can_go_on.ensures.0 x.if-not-can_go_on.false),
     )
 
-give_first_requires : tie.Need-give-first-requires
+give_first_requires : tie.Need-give_first-requires
 give_first_requires c κs =
-    let v = c.before.before.advance in
-    let s = c.before.before.before.before.before.before.before.before.before.before.before.before.before.before.before.before.before.before.before in
+    let v = c.advance-turned in
+    let s = c in
     (s.requires.0, s.requires.1, v.ensures.0.held, v.ensures.1, kept_small v.ensures.0.kept, s.requires.3)
 
-returns_4 : tie.Need-returns-4
+returns_4 : tie.Need-returns
 returns_4 c =
-    let f = c.before.before.before.before.give-first in
-    let v = c.before.before.before.before.before.before.before.advance in
-    let w = c.before.before.before.before.before.before.before.before.before in
-    let k = c.before.before.before.before.before.before.before.before.before.before.before.before in
-    let s = begun k in
+    let f = c.give_first in
+    let v = c.advance-turned in
+    let w = c in
+    let k = c in
+    let s = begun k.before.before.before.before.before.before.before.before.before.before.before in
     let a = s.args in
-    turned_ask a.tape.now a.table.now a.settings.now a.places.now a.state.now a.«record».now s.pre.1 s.pre.2 s.pre.0 (can_tell c.before.before.before.before.before.before.before.before.before.before) (is_run k)
-    (w.with-points.ensures ∙ ap (with_points false) c.before.before.before.before.before.before.before.before.before.before.before.before.before.before.before.before.before.settings-of.ensures) v.result v.ensures.0 f.result f.new.0 f.new.1.1.0 f.ensures
+    turned_ask a.tape.now a.table.now a.settings.now a.places.now a.state.now a.«record».now s.requires.1 s.requires.2 s.requires.0 (can_tell c.before.before.before.before.before.before.before.before.before) (is_run k.before.before.before.before.before.before.before.before.before.before.before)
+    (w.with_points-running.ensures ∙ ap (with_points false) c.settings_of-set.ensures) v.result v.ensures.0 f.result f.new.state f.new.record f.ensures
 
 pub go_on_spec : {M : Type 1} → statement M
 go_on_spec = tie.close (tie.spec (λ c κs. search rules) returns settings_of_requires (λ c κs. search rules) returns_2 (λ c. search rules) (λ c. search rules) (λ c. search rules) (λ c κs. search rules) (λ c κs. search rules) (λ c. search rules) returns_3 (λ c κs. search rules) slice_aggregate_lines advance_requires give_first_requires (λ c. search rules) (λ c. search rules) returns_4)

@@ -8,18 +8,18 @@ use Rattle.runbounds.proofs.Keeping.{tells_complete, tells_alarm}
 use Rattle.runbounds.proofs.is_fitting.Statement.{statement}
 use Rattle.runbounds.proofs.is_fitting.Tie as tie
 
-returns : tie.Need-returns
-returns c = tells_of Answers c.enum_told.given.1 (tells_yes tt)
+returns : tie.Need-returns-in-Running
+returns c = tells_of Answers c.in-Running.is (tells_yes tt)
 
-returns_2 : tie.Need-returns-2
+returns_2 : tie.Need-returns-in-Complete
 returns_2 c =
-    let a = c.before in
-    tells_of Answers (a.before.before.before.phase.given.1 ∙ ap Over a.answer.given.1) (tells_complete _)
+    let a = c in
+    tells_of Answers (a.in-Over.is ∙ ap Over a.in-Complete.is) (tells_complete _)
 
-returns_3 : tie.Need-returns-3
+returns_3 : tie.Need-returns-in-Alarm
 returns_3 c =
-    let a = c.before in
-    tells_of Answers (a.before.before.before.phase.given.1 ∙ ap Over a.answer2.given.1) (tells_alarm _ _ _)
+    let a = c in
+    tells_of Answers (a.in-Over.is ∙ ap Over a.in-Alarm.is) (tells_alarm _ _ _)
 
 pub is_fitting_spec : {M : Type 1} → statement M
 is_fitting_spec =

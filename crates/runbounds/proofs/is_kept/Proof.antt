@@ -5,7 +5,7 @@ use Rattle.runbounds.proofs.is_kept.Statement.{statement}
 use Rattle.runbounds.proofs.is_kept.Tie as tie
 
 returns : tie.Need-returns
-returns c = tells_kept c.before.wait-within.ensures c.is-fitting.ensures
+returns c = tells_kept c.wait_within-wait.ensures c.is_fitting-answer.ensures
 
 pub is_kept_spec : {M : Type 1} → statement M
 is_kept_spec =

@@ -6,10 +6,10 @@ use Rattle.statewords.proofs.put_due.Tie as tie
 
 returns : tie.Need-returns
 returns c =
-    let put = c.before.before in
-    let made = put.before.before in
-    let s = made.before.before.before in
-    due_is_put s.args.state.now made.due-words.result s.args.deed s.args.due s.requires (search rules) made.due-words.ensures put.put-words.ensures
+    let put = c in
+    let made = put in
+    let s = made in
+    due_is_put s.args.state.now made.due_words.result s.args.deed s.args.due s.requires (search rules) made.due_words.ensures put.put_words.ensures
 
 pub put_due_spec : {M : Type 1} → statement M
 put_due_spec =

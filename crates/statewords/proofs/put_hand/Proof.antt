@@ -6,11 +6,11 @@ use Rattle.statewords.proofs.put_hand.Tie as tie
 
 returns : tie.Need-returns
 returns c =
-    let due = c.before.before in
-    let put = due.before.before.before.before in
-    let made = put.before.before in
-    let s = made.before.before.before in
-    hand_put s.args.state.now made.plan-words.result s.args.plan s.args.due s.args.origin s.requires (search rules) made.plan-words.ensures put.put-words.ensures due.put-due.ensures
+    let due = c in
+    let put = due in
+    let made = put in
+    let s = made in
+    hand_put s.args.state.now made.plan_words.result s.args.plan s.args.due s.args.origin s.requires (search rules) made.plan_words.ensures put.put_words.ensures due.put_due.ensures
 
 pub put_hand_spec : {M : Type 1} → statement M
 put_hand_spec =

@@ -6,10 +6,10 @@ use Rattle.statewords.proofs.put_nothing.Tie as tie
 
 returns : tie.Need-returns
 returns c =
-    let put = c.before.before in
-    let made = put.before.before in
-    let s = made.before.before.before in
-    nothing_put s.args.state.now made.empty-words.result s.requires (search rules) made.empty-words.ensures put.put-words.ensures
+    let put = c in
+    let made = put in
+    let s = made in
+    nothing_put s.args.state.now made.empty_words.result s.requires (search rules) made.empty_words.ensures put.put_words.ensures
 
 pub put_nothing_spec : {M : Type 1} → statement M
 put_nothing_spec =

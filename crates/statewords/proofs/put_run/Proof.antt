@@ -6,9 +6,9 @@ use Rattle.statewords.proofs.put_run.Tie as tie
 
 returns : tie.Need-returns
 returns c =
-    let put = c.before.before.put_Going in
-    let s = c.before.before.before.before.before in
-    let met = run_put s.args.state.now put.new.0 s.args.g s.requires.0 put.ensures.0 put.ensures.1 in
+    let put = c.put_going in
+    let s = c in
+    let met = run_put s.args.state.now put.new.words s.args.g s.requires.0 put.ensures.0 put.ensures.1 in
     (met.0, (met.1, met.2))
 
 pub put_run_spec : {M : Type 1} → statement M

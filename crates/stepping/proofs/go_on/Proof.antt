@@ -23,53 +23,53 @@ module _ (s : tie.Start) where
 
 call_requires : tie.Need-call-requires
 call_requires c κs =
-    let s = c.before.before.before.before.before.before.before in
+    let s = c in
     let k = s.requires.0 in
-    (k.calls, k.size, omega (arith, c.within2.ensures, within_fits (length s.args.tape.now) c.before.before.onward2.given.0.0.line))
+    (k.calls, k.size, omega (arith, c.within-line.ensures, within_fits (length s.args.tape.now) c.in-Call.p.line))
 
-come_back_requires : tie.Need-come-back-requires
+come_back_requires : tie.Need-come_back-requires
 come_back_requires c κs =
-    let s = c.before.before.before.before.before.before in
+    let s = c in
     let k = s.requires.0 in
-    let is = c.moved3.ensures in
+    let is = c.moved-in-Return.ensures in
     (omega (arith, ap (λ (x : Going). x.frame.calls_left) is, k.calls), ap (λ (x : Going). length x.waiting) is ∙ k.size, omega (arith, ap (λ (x : Going). x.frame.program.line) is, k.line, s.requires.1))
 
-returns : tie.Need-returns
+returns : tie.Need-returns-in-On
 unfolding gone_on
 returns c =
-    let s = c.before.before.before.before.before.before.before in
-    c.moved.ensures ∙ ap (λ (f : Frame). moved_to s.args.g f s.args.run) c.before.onto.ensures ∙ told s c.before.before.enum_told.given.1
+    let s = c in
+    c.moved.ensures ∙ ap (λ (f : Frame). moved_to s.args.g f s.args.run) c.onto.ensures ∙ told s.before.before.before.before.before.before c.in-On.is
 
-returns_2 : tie.Need-returns-2
+returns_2 : tie.Need-returns-in-Jump
 unfolding gone_on
 returns_2 c =
-    let s = c.before.before.before.before.before.before.before.before.before in
-    c.moved2.ensures
-    ∙ ap (λ (f : Frame). moved_to s.args.g f s.args.run) (c.before.onto2.ensures ∙ ap (onto s.args.g.frame) c.before.before.within.ensures)
-    ∙ told s c.before.before.before.before.onward.given.1
+    let s = c in
+    c.moved-in-Jump.ensures
+    ∙ ap (λ (f : Frame). moved_to s.args.g f s.args.run) (c.onto-in-Jump.ensures ∙ ap (onto s.args.g.frame) c.within-to.ensures)
+    ∙ told s.before.before.before.before.before.before.before c.in-Jump.is
 
-returns_3 : tie.Need-returns-3
+returns_3 : tie.Need-returns-in-Call
 unfolding gone_on
 returns_3 c =
-    let s = c.before.before.before.before.before.before.before.before in
-    let m = c.before.before.before in
+    let s = c in
+    let m = c in
     c.call.ensures
-    ∙ ap (λ (n : ℕ). called_to s.args.tape.now s.args.g s.args.run (record { number = m.onward2.given.0.0.number; line = n }) m.onward2.given.0.1.0 s.args.after) c.before.within2.ensures
-    ∙ told s m.onward2.given.1
+    ∙ ap (λ (n : ℕ). called_to s.args.tape.now s.args.g s.args.run (record { number = m.in-Call.p.number; line = n }) m.in-Call.times s.args.after) c.within-line.ensures
+    ∙ told s.before.before.before.before.before.before m.in-Call.is
 
-returns_4 : tie.Need-returns-4
+returns_4 : tie.Need-returns-in-Return
 unfolding gone_on
 returns_4 c =
-    let s = c.before.before.before.before.before.before.before in
-    c.come-back.ensures ∙ ap (came_back s.args.tape.now) c.before.moved3.ensures ∙ told s c.before.before.enum-told2.given.1
+    let s = c in
+    c.come_back.ensures ∙ ap (came_back s.args.tape.now) c.moved-in-Return.ensures ∙ told s.before.before.before.before.before.before c.in-Return.is
 
-returns_5 : tie.Need-returns-5
+returns_5 : tie.Need-returns-in-End
 unfolding gone_on
-returns_5 c = let s = c.before.before.before.before.before.before in c.over.ensures ∙ told s c.before.enum-told3.given.1
+returns_5 c = let s = c in c.over.ensures ∙ told s.before.before.before.before.before c.in-End.is
 
-returns_6 : tie.Need-returns-6
+returns_6 : tie.Need-returns-in-Stop
 unfolding gone_on
-returns_6 c = let s = c.before.before.before.before.before.before.before in c.stopped.ensures ∙ told s c.before.before.onward3.given.1
+returns_6 c = let s = c in c.stopped.ensures ∙ told s.before.before.before.before.before c.in-Stop.is
 
 pub go_on_spec : {M : Type 1} → statement M
 go_on_spec =
