@@ -4,7 +4,6 @@ pub mod Tests
 pub mod Walking
 pub mod Alarmed
 pub mod Never
-
 -- ---- passed on to the crates above, which do not list the crate themselves
 pub use Rattle.demands.specs.of_answers as of_answers
 pub use Rattle.demands.specs as of_demands

@@ -2,6 +2,4 @@
 // Read specs/Tests.antt for the orders of the alarms, specs/Walking.antt for the block that follows, and specs/Alarmed.antt for the statement.
 #![tactic(auto)]
 
-pub use demands::interpreter;
-pub use demands::answers;
-
+pub use demands::{answers, interpreter};

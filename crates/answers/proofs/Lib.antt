@@ -1,6 +1,5 @@
 -- The laws of an answer.
 pub mod Finished
-
 -- ---- passed on to the crates above, which do not list the crate themselves
 pub use Rattle.runners.proofs.of_machine as of_machine
 pub use Rattle.runners.proofs as of_runners

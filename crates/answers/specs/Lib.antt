@@ -1,6 +1,5 @@
 -- The definitions that the contracts of this crate cite, and those of the crates built on it.
 pub mod Answers
-
 -- ---- passed on to the crates above, which do not list the crate themselves
 pub use Rattle.runners.specs.of_machine as of_machine
 pub use Rattle.runners.specs as of_runners

@@ -6,13 +6,11 @@ ghost use Rattle.std.specs.Prelude.{◌≡◌, ◌≤◌, length};
 ghost use Rattle.moves.specs.Form.{header_size, record_limit};
 ghost use Rattle.answers.specs.Answers.{answer_by, start_of, headed};
 
-pub use runners::wording;
-pub use runners::taking;
-pub use runners::stages;
 pub use runners;
 use runners::Ending;
-use settings::Settings;
 use runners::taking::Run;
+pub use runners::{stages, taking, wording};
+use settings::Settings;
 
 #[derive(Clone, Copy)]
 pub enum Answer {

@@ -3,9 +3,7 @@
 ghost use Rattle.std.specs.Prelude.{◌≤◌};
 ghost use Rattle.stored.specs.Texts.{FromOne};
 
-use board::runwords;
-use board::packing;
-use board::inhand;
+use board::{inhand, packing, runwords};
 use stored::compare::Verdict;
 
 // The buffer that has room for every list.

@@ -8,8 +8,8 @@ ghost use Rattle.std.specs.Prelude.{◌≡◌, ◌≤◌, length};
 ghost use Rattle.stored.specs.Texts.{FromOne};
 ghost use Rattle.comparing.specs.Door.{settings_in, answer_told};
 
-pub use listing;
 pub use board;
+pub use listing;
 pub use listing::answers;
 use listing::answers::Answer;
 use stored::compare::Verdict;

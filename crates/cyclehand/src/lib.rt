@@ -8,9 +8,9 @@ ghost use Rattle.cyclewords.specs.Sizes.{due_words};
 ghost use Rattle.handwords.specs.Due.{slot_of};
 ghost use Rattle.passhand.specs.Gives.{has_next_in, Gives};
 
-pub use handwords::resumable;
-pub use handwords;
 pub use handing;
+pub use handwords;
+pub use handwords::resumable;
 use moves::Origin;
 pub use passhand::Gave;
 

@@ -19,7 +19,6 @@ pub mod Strokes
 pub mod EveryBlock
 pub mod DeedKinds
 pub mod Arcs
-
 -- ---- passed on to the crates above, which do not list the crate themselves
 pub use Rattle.interpreter.proofs as of_interpreter
 pub use Rattle.interpreter.proofs.of_machine as of_machine

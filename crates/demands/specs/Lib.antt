@@ -8,7 +8,6 @@ pub mod Points
 pub mod Strokes
 pub mod Origins
 pub mod Arcs
-
 -- ---- passed on to the crates above, which do not list the crate themselves
 pub use Rattle.interpreter.specs.of_answers as of_answers
 pub use Rattle.interpreter.specs as of_interpreter

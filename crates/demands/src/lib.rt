@@ -4,4 +4,3 @@
 
 pub use interpreter;
 pub use interpreter::answers;
-

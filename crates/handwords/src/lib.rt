@@ -11,8 +11,8 @@ ghost use Rattle.cyclewords.specs.Sizes.{due_words};
 ghost use Rattle.resumable.specs.Kept.{leads, kept};
 ghost use Rattle.handwords.specs.Due.{is_empty, is_deed, stage_of, slot_of, due_from, due_by, Hands};
 
-pub use resumable;
 use cyclewords::DUE_WORDS;
+pub use resumable;
 use stages::{Due, Stage};
 
 // What is in hand.

@@ -7,11 +7,10 @@ ghost use Rattle.taking.specs.declared.Hand.TheVariants.{Block};
 ghost use Rattle.taking.specs.Hands.{in_hand, HandSound};
 ghost use Rattle.holding.specs.Held.{Held};
 
-use taking::handing;
-pub use taking;
 use moves::{Listed, Origin};
+pub use taking;
 use taking::stages::Cursor;
-use taking::Hand;
+use taking::{Hand, handing};
 
 // A record, and what is in hand behind it.
 #[derive(Clone, Copy)]

@@ -6,15 +6,12 @@ ghost use Rattle.std.specs.Prelude.{◌≡◌, false, ◌≤◌, length};
 ghost use Rattle.moves.specs.Form.{record_size};
 ghost use Rattle.inhand.specs.State.{state_words, is_empty_in, GiveMeets};
 
-use cyclehand::resumable;
-use statewords::planwords;
-use cyclehand::handing;
 pub use cyclehand::handwords;
-use cyclehand::Gave;
+use cyclehand::{Gave, handing, resumable};
 use cyclewords::DUE_WORDS;
 use statewords::planwords::PLAN_WORDS;
 use statewords::runwords::GOING_WORDS;
-use statewords::put_due;
+use statewords::{planwords, put_due};
 pub use statewords::{GOING, PLAN, put_hand, put_nothing, put_run};
 
 // The words of a state.

@@ -2,7 +2,6 @@
 pub mod Within
 pub mod Whole
 pub mod Staying
-
 -- ---- passed on to the crates above, which do not list the crate themselves
 pub use Rattle.answers.proofs.of_machine as of_machine
 pub use Rattle.answers.proofs.of_runners as of_runners

@@ -1,7 +1,6 @@
 -- The definitions that the contracts of this crate cite, and those of the crates built on it.
 pub mod Answers
 pub mod Known
-
 -- ---- passed on to the crates above, which do not list the crate themselves
 pub use Rattle.answers.specs as of_answers
 pub use Rattle.answers.specs.of_machine as of_machine

@@ -7,9 +7,8 @@ ghost use Rattle.interpreter.specs.Answers.{main_run, laid_by, read_then, answer
 ghost use Rattle.interpreter.specs.Known.{Lent, ReadIn};
 ghost use Rattle.settings.specs.Known.{Right};
 
-use answers::runners;
 use ahead::ProgramAt;
-use answers::Answer;
+use answers::{Answer, runners};
 use places::Found;
 use reading::Read;
 use settings::Settings;

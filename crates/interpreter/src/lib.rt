@@ -4,6 +4,5 @@
 
 pub mod interpret;
 
-pub use answers::wording;
-pub use answers::taking;
 pub use answers;
+pub use answers::{taking, wording};

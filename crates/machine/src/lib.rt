@@ -9,17 +9,15 @@ ghost use Rattle.state.specs.Known.{Sound};
 ghost use Rattle.settings.specs.Known.{Table, InRange};
 ghost use Rattle.machine.specs.Blocks.{block_records, outcome_of};
 
-pub use writing;
-pub use verdicts;
-pub use putting::stages;
-pub use putting;
-pub use putting::opening;
-pub use putting::handing;
 use block::Block;
 use moves::Origin;
+pub use putting;
+pub use putting::{handing, opening, stages};
 use settings::Settings;
 use state::State;
+pub use verdicts;
 use verdicts::Verdict;
+pub use writing;
 
 // The state after a block that was done, and how many records are written by then.
 #[derive(Clone, Copy)]

@@ -15,18 +15,17 @@ ghost use Rattle.runbounds.specs.of_runwords.Laid.{Small};
 ghost use Rattle.inhand.specs.State.{state_words, hand_in, run_in};
 ghost use Rattle.onemove.specs.OneMove.{CanGoOn, OneGiven, FirstMeets, AskMeets, NextMeets, BegunMeets, places_started, StartsIn};
 
-use stepping::holding;
-use inhand::handwords;
-pub use runbounds::runwords;
-pub use packing;
 pub use inhand;
-use packing::answers::Answer;
+use inhand::handwords;
 use moves::Origin;
+pub use packing;
 use packing::Told;
-use runbounds::paused::{Going, Phase};
+use packing::answers::Answer;
 use packing::stages::Cursor;
-use stepping::Turned;
 use packing::taking::Hand;
+use runbounds::paused::{Going, Phase};
+pub use runbounds::runwords;
+use stepping::{Turned, holding};
 
 // Lays the first record of a block that was opened, and puts what is left of it into the words.
 fn give_one(state: &mut [u32], c: Cursor, origin: Origin, record: &mut [u8])

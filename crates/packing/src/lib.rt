@@ -4,10 +4,9 @@
 ghost use Rattle.std.specs.Prelude.{◌≡◌, ◌+◌, ◌*◌, ◌<◌};
 ghost use Rattle.packing.specs.Packing.{Fits, Packed, answer_number, told_number, FitsTold, Bounded};
 
-pub use answers::taking;
-pub use answers::stages;
 pub use answers;
 use answers::Answer;
+pub use answers::{stages, taking};
 
 // What an ask comes to: a record, which is laid at the front of the lent bytes; the answer of the run; or that nothing was done: words that cannot be asked with what is lent, or bytes that have no room for a record.
 #[derive(Clone, Copy)]

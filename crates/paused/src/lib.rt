@@ -2,14 +2,12 @@
 // (02, request 12: an engine "that keeps the run's state, call places included".)
 #![tactic(auto)]
 
-pub use resuming::wording;
-pub use resuming::taking;
-pub use resuming;
-pub use resuming::answers;
 use ahead::Frame;
-use resuming::answers::Answer;
+pub use resuming;
 use resuming::Waiting;
+use resuming::answers::Answer;
 use resuming::taking::Run;
+pub use resuming::{answers, taking, wording};
 
 // Whether there is more to run, or the answer that the run has come to.
 #[derive(Clone, Copy)]

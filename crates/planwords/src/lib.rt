@@ -6,8 +6,8 @@ ghost use Rattle.stages.specs.declared.Due.{Due};
 ghost use Rattle.resumable.specs.Kept.{with_deed};
 ghost use Rattle.planwords.specs.Plan.{plan_words, record_words, record_at, own_at, Tail, plan_of, origin_of};
 
-pub use stages;
 use moves::{Origin, Record};
+pub use stages;
 use stages::{Due, Own, Plan};
 
 pub const PLAN_WORDS: usize = 27;

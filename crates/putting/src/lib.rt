@@ -11,12 +11,12 @@ ghost use Rattle.writing.specs.Writes.{writes};
 ghost use Rattle.stages.specs.Cursor.{rest_of, DueSound, Sound};
 ghost use Rattle.putting.specs.Cycles.{has_own_loop, cycle_row};
 
-pub use stages;
-pub use opening;
-pub use handing;
 use block::Block;
 use deeds::Deed;
+pub use handing;
 use moves::Origin;
+pub use opening;
+pub use stages;
 use stages::{Cursor, Due, Stage};
 use state::State;
 

@@ -1,11 +1,9 @@
 // An engine that hands out one record at a time, as definitions (specs/), and the law that its answers in turn are the list engine's records and then its answer. Of code there are only two types.
 #![tactic(auto)]
 
-pub use interpreter::wording;
-pub use interpreter::taking;
-pub use interpreter::answers;
 use ahead::ProgramAt;
 use interpreter::answers::Answer;
+pub use interpreter::{answers, taking, wording};
 use moves::Listed;
 
 // A program that waits for a call to return: the place to go on in it, and how often the called program is still to run.

@@ -6,16 +6,13 @@ ghost use Rattle.std.specs.Prelude.{◌≡◌, ◌≤◌, ◌<◌, length};
 ghost use Rattle.ahead.specs.Ahead.{most_calls};
 ghost use Rattle.returning.specs.Moving.{within_of, moved_to, over_with, stopped_with, top_of, popped_to, entry_of, repeated_to, came_back, pushed_to, called_to};
 
-pub use paused::wording;
-pub use paused::taking;
-pub use paused::resuming;
-pub use paused;
-pub use paused::answers;
 use ahead::{Frame, ProgramAt};
+pub use paused;
 use paused::answers::Answer;
-use paused::{Going, Phase};
 use paused::resuming::Waiting;
 use paused::taking::Run;
+pub use paused::{answers, resuming, taking, wording};
+use paused::{Going, Phase};
 
 // 16 bits have a place on the tape and a count of records.
 const SIXTEEN_BITS: usize = 65_536;

@@ -5,10 +5,10 @@ ghost use Rattle.std.specs.Prelude.{◌≡◌, true, ℕ, ◌<◌, length, get_o
 ghost use Rattle.ahead.specs.Ahead.{most_calls};
 ghost use Rattle.runwords.specs.of_paused.Kept.{nobody, Waits, Answers, Kept};
 
-use runwords::answers;
 pub use runwords;
-pub use runwords::paused;
+use runwords::answers;
 use runwords::answers::Answer;
+pub use runwords::paused;
 use runwords::paused::{Going, Phase};
 use runwords::resuming::Waiting;
 

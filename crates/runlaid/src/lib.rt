@@ -8,12 +8,12 @@ ghost use Rattle.runwords.specs.of_paused.Kept.{nobody};
 ghost use Rattle.runwords.specs.Taken.{going_words, phase_of, end_from, run_from, tag_of, waiting_from, going_of};
 ghost use Rattle.runwords.specs.Laid.{phase_words, frame_words, kept_tag, yes_word, signed_word, run_words, ReadBack, words_of, all_words, Put, word_range, SmallPhase, SmallWaiting, Small};
 
-pub use runwords;
-pub use runwords::paused;
 use acts::Kept;
 use ahead::Frame;
-use runwords::answers::Answer;
 use codes::Motion;
+pub use runwords;
+use runwords::answers::Answer;
+pub use runwords::paused;
 use runwords::paused::{Going, Phase};
 use runwords::resuming::Waiting;
 use runwords::taking::Run;

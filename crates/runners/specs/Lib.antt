@@ -1,7 +1,6 @@
 -- The definitions that the contracts of this crate cite, and those of the crates built on it.
 pub mod Runs
 pub mod Meets
-
 -- ---- passed on to the crates above, which do not list the crate themselves
 pub use Rattle.steps.specs.of_machine as of_machine
 pub use Rattle.steps.specs.of_stages as of_stages

@@ -6,12 +6,10 @@ ghost use Rattle.std.specs.Prelude.{length};
 ghost use Rattle.steps.specs.of_taking.Steps.{task_of};
 ghost use Rattle.runners.specs.Meets.{Begins, ProgramMeets, CallMeets};
 
-pub use steps::wording;
-pub use steps::taking;
-pub use steps::stages;
 use ahead::{Frame, Onward, ProgramAt};
 use settings::Settings;
 use steps::taking::Run;
+pub use steps::{stages, taking, wording};
 
 // How a program's run came to its end. An alarm has its number and its place.
 #[derive(Clone, Copy)]

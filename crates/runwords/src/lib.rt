@@ -7,18 +7,16 @@ ghost use Rattle.octets.specs.Bytes.{signed_of};
 ghost use Rattle.ahead.specs.Ahead.{most_calls};
 ghost use Rattle.runwords.specs.Taken.{going_words, motion_of, phase_of, frame_of, state_of, run_of, waiting_at, waiting_of, going_of};
 
-pub use paused::taking;
-pub use paused::resuming;
-pub use paused;
-pub use paused::answers;
 use acts::Kept;
 use ahead::{Frame, ProgramAt};
-use paused::answers::Answer;
 use codes::Motion;
-use paused::{Going, Phase};
+pub use paused;
+use paused::answers::Answer;
 use paused::resuming::Waiting;
-use state::State;
 use paused::taking::Run;
+pub use paused::{answers, resuming, taking};
+use paused::{Going, Phase};
+use state::State;
 
 // What the run has come to: its tag, and of an answer the alarm, the place and the count of the records, 0 where it has none.
 pub const PHASE: usize = 0;

@@ -5,15 +5,13 @@ ghost use Rattle.moves.specs.Form.{record_limit};
 ghost use Rattle.returning.specs.of_taking.Hands.{Able};
 ghost use Rattle.skipping.specs.Passed.{PassMeets};
 
-use returning::wording;
-use returning::taking;
-pub use returning;
-pub use returning::paused;
-pub use returning::answers;
 use ahead::{Frame, Onward};
-use settings::Settings;
+pub use returning;
 use returning::taking::quiet::Met;
 use returning::taking::{Hand, Opened, Run};
+use returning::{taking, wording};
+pub use returning::{answers, paused};
+use settings::Settings;
 
 // A step, and where it was taken.
 #[derive(Clone, Copy)]

@@ -1,6 +1,5 @@
 -- The definitions that the contracts of this crate cite, and those of the crates built on it.
 pub mod Starts
 pub mod Begun
-
 -- ---- passed on to the crates above, which do not list the crate themselves
 pub use Rattle.returning.specs as of_returning

@@ -9,15 +9,15 @@ ghost use Rattle.returning.specs.of_resuming.Handed.{roomy};
 ghost use Rattle.starting.specs.Begun.{standing_at, refused_with, begun_at};
 ghost use Rattle.starting.specs.Starts.{StartMeets};
 
-use returning::answers;
 use ahead::{Frame, ProgramAt};
-use returning::answers::Answer;
-use returning::paused::{Going, Phase};
 use places::Found;
 use reading::Read;
+use returning::answers;
+use returning::answers::Answer;
+use returning::paused::{Going, Phase};
 use returning::resuming::Waiting;
-use settings::Settings;
 use returning::taking::Run;
+use settings::Settings;
 
 // A run that stands in a program before its first block, or one that is over at once: no program waits.
 fn standing(frame: Frame, run: Run, phase: Phase, end: usize, filled: usize) -> Going

@@ -8,13 +8,13 @@ ghost use Rattle.planwords.specs.of_resumable.Kept.{kept};
 ghost use Rattle.runlaid.specs.of_runwords.Laid.{Small};
 ghost use Rattle.statewords.specs.State.{state_words, hand_in, run_in, PutMeets, hand_from, hand_kept, plan_in};
 
-pub use runlaid::runwords;
-pub use planwords;
 use cyclewords::DUE_WORDS;
 use moves::Origin;
-use runlaid::paused::Going;
+pub use planwords;
 use planwords::PLAN_WORDS;
 use planwords::stages::{Due, Plan};
+use runlaid::paused::Going;
+pub use runlaid::runwords;
 
 // Where the plan begins, and where the run.
 pub const PLAN: usize = DUE_WORDS;

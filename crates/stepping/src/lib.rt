@@ -10,14 +10,14 @@ ghost use Rattle.skipping.specs.of_paused.declared.Phase.TheVariants.{Running};
 ghost use Rattle.skipping.specs.of_returning.Moving.{gone_on};
 ghost use Rattle.stepping.specs.Meets.{Fit, TurnMeets, Nearer, Stands};
 
-use holding::taking;
-use skipping::returning;
-pub use holding;
 use ahead::{Onward, ProgramAt};
+pub use holding;
+use holding::taking;
+use holding::taking::{Hand, Run};
+use settings::Settings;
 use skipping::answers::Answer;
 use skipping::paused::{Going, Phase};
-use settings::Settings;
-use holding::taking::{Hand, Run};
+use skipping::returning;
 
 // What a turn has in hand, and where the run goes on once that is handed out.
 #[derive(Clone, Copy)]

@@ -1,6 +1,5 @@
 -- The laws of this crate, for the crates built on it.
 pub mod Writing
-
 -- ---- passed on to the crates above, which do not list the crate themselves
 pub use Rattle.wording.proofs.of_machine as of_machine
 pub use Rattle.wording.proofs.of_taking as of_taking

@@ -5,5 +5,4 @@
 pub mod step;
 
 pub use wording;
-pub use wording::taking;
-pub use wording::stages;
+pub use wording::{stages, taking};

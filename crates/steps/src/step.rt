@@ -4,13 +4,12 @@ ghost use Rattle.wording.specs.of_taking.Steps.{task_of};
 ghost use Rattle.wording.specs.of_taking.Meets.{Next};
 ghost use Rattle.steps.specs.Meets.{Needs, StepMeets};
 
-use wording::taking;
-use wording::putting;
 use ahead::Frame;
 use finding::BlockAt;
 use settings::Settings;
 use wording::taking::quiet::Met;
 use wording::taking::{Hand, Run, StepDone};
+use wording::{putting, taking};
 
 // Does the block of a line that was found, by its words.
 fn do_words(

@@ -1,7 +1,6 @@
 -- The laws of this crate, for the crates built on it.
 pub mod Lines
 pub mod Stepping
-
 -- ---- passed on to the crates above, which do not list the crate themselves
 pub use Rattle.machine.proofs.of_handing as of_handing
 pub use Rattle.machine.proofs as of_machine

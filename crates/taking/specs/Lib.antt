@@ -2,7 +2,6 @@
 pub mod Steps
 pub mod Hands
 pub mod Meets
-
 -- ---- passed on to the crates above, which do not list the crate themselves
 pub use Rattle.machine.specs as of_machine
 pub use Rattle.machine.specs.of_stages as of_stages

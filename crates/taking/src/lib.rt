@@ -11,15 +11,10 @@ ghost use Rattle.ahead.specs.Ahead.{onto};
 ghost use Rattle.taking.specs.Steps.{alarm_by};
 ghost use Rattle.taking.specs.Meets.{stopped_by, went_by};
 
-pub use machine::writing;
-pub use machine::verdicts;
-pub use machine::stages;
-pub use machine::putting;
-pub use machine::opening;
-pub use machine::handing;
 use ahead::{Frame, Onward};
-use moves::Origin;
 use machine::stages::Cursor;
+pub use machine::{handing, opening, putting, stages, verdicts, writing};
+use moves::Origin;
 use state::State;
 
 // The alarm that the runner is asked to stop with, 0 for none.

@@ -12,12 +12,6 @@ ghost use Rattle.taking.specs.Hands.{in_hand, HandSound, Able, OpenMeets};
 ghost use Rattle.taking.specs.Meets.{onward_in, Asks, origin_in, Starts, Next, refused_by};
 ghost use Rattle.wording.specs.Meets.{GoingMeets};
 
-use taking::writing;
-use taking::verdicts;
-use taking::opening;
-pub use taking;
-pub use taking::stages;
-pub use taking::putting;
 use ahead::{Frame, Onward};
 use block::Block;
 use deeds::Deed;
@@ -25,8 +19,10 @@ use finding::BlockAt;
 use moves::Origin;
 use settings::Settings;
 use state::State;
-use taking::{Hand, Opened, Run};
+pub use taking;
 use taking::verdicts::{Going, Verdict};
+use taking::{Hand, Opened, Run, opening, verdicts, writing};
+pub use taking::{putting, stages};
 
 // The numbers of a program and of a block have 16 bits in a record.
 const SIXTEEN_BITS: u32 = 65_536;

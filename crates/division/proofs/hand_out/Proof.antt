@@ -14,8 +14,8 @@ hand_out_spec =
     (λ c. search rules)
     (λ c. shorter_first c.args.p c.requires.0 (omega arith))
     (λ c.
-        let some : 0 < c.args.p.remainder = grind arith in
-        let fits : c.args.p.piece + 1 < 2 ^ 32 = longer_fits c.args.p c.requires.0 (2 ^ 32) some c.requires.1 in
-        omega arith)
+    let some : 0 < c.args.p.remainder = grind arith in
+    let fits : c.args.p.piece + 1 < 2 ^ 32 = longer_fits c.args.p c.requires.0 (2 ^ 32) some c.requires.1 in
+    omega arith)
     (λ c. search rules)
     (λ c. let some : 0 < c.args.p.remainder = grind arith in longer_first c.args.p c.requires.0 some))

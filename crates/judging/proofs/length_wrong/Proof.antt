@@ -11,19 +11,15 @@ use Rattle.judging.proofs.Judges.{over_limit, within_limit}
 use Rattle.judging.proofs.length_wrong.Statement.{statement}
 use Rattle.judging.proofs.length_wrong.Tie as tie
 
-returns : tie.Need-returns-then-count-record_limit
-returns c =
-    let m = c in
-    let s = m in
-    over_limit s.args.list.now s.args.v s.args.count s.requires.1 (omega (arith, m.record_limit.ensures, c.if-count-record_limit.true))
-
-returns_2 : tie.Need-returns
-returns_2 c =
-    let e = c in
-    let m = e in
-    let s = m in
-    ap (λ (n : ℕ). not (eqb (length s.args.list.now) n) || not (eqb (get_or s.args.list.now header_zero_at 0) 0)) c.record_start.ensures
-    ∙ within_limit s.args.list.now s.args.v s.args.count s.requires.1 (omega (arith, m.record_limit.ensures, e.if-count-record_limit.false))
-
+-- which branch was taken is read off by `omega`, so that a condition that is another leaves it without a proof
 pub length_wrong_spec : {M : Type 1} → statement M
-length_wrong_spec = tie.close (tie.spec (λ c κs. search rules) returns (λ c κs. search rules) (λ c. search rules) returns_2)
+length_wrong_spec =
+    tie.close
+    (tie.spec
+    (λ c κs. search rules)
+    (λ c. over_limit c.args.list.now c.args.v c.args.count c.requires.1 (omega (arith, c.record_limit.ensures)))
+    (λ c κs. search rules)
+    (λ c. search rules)
+    (λ c.
+    ap (λ (n : ℕ). not (eqb (length c.args.list.now) n) || not (eqb (get_or c.args.list.now header_zero_at 0) 0)) c.record_start.ensures
+    ∙ within_limit c.args.list.now c.args.v c.args.count c.requires.1 (omega (arith, c.record_limit.ensures))))

@@ -1,5 +1,6 @@
 -- `numbers::read_unsigned_path` meets its contract.
 -- One law of `Reading` for each way out, handed the run before the point and the run behind it.
+-- Whether the run before the point is too long is read off by `omega`, so that another bound is refused for what it fails.
 use mathlib.Core.Path.{sym, ap, ◌∙◌}
 use mathlib.Core.Bool.{true, false}
 use Prim.Native.Nat.{◌*◌, ◌<◌}
@@ -34,11 +35,6 @@ returns_3 : tie.Need-returns-then-part-p-ne46
 returns_3 c =
     let g = c.digit_run-whole in
     sym (path_other _ _ _ g.result g.ensures c.if-p-part.false (rw (ne_eqb _ _ c.if-part-p-ne46.true)))
-
-returns_4 : tie.Need-returns-then-n-gt4
-returns_4 c =
-    let g = c.digit_run-whole in
-    sym (path_other _ _ _ g.result g.ensures (omega arith) (rw (eq-eqb _ _ c.if-part-p-ne46.false, lt-leb _ _ c.if-n-gt4.true)))
 
 returns_5 : tie.Need-returns-then-q-m
 returns_5 c =
@@ -94,7 +90,7 @@ read_unsigned_path_spec =
     returns_2
     (λ c. search rules)
     returns_3
-    returns_4
+    (λ c. sym (path_other _ _ _ c.digit_run-whole.result c.digit_run-whole.ensures (omega arith) (rw (eq-eqb _ _ c.if-part-p-ne46.false, lt-leb c.digit_run-whole.result.count 4 (omega arith)))))
     (λ c. search rules)
     (λ c κs. search rules)
     (λ c. search rules)

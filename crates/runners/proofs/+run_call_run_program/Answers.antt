@@ -122,9 +122,13 @@ run_program-loop-now-smaller t c =
 pub run_program-loop-now-preserved : goal.run_program-loop-now-preserved
 run_program-loop-now-preserved t c =
     let i = c.loop-now.invariant in
-    let a = c.args in
-    (Going.call_returned a.tape.now a.table.now a.set a.first a.buf.now i.1.header a.program a.calls a.run i.0 c.take_step-done.ensures c.in-Call.called c.in-Call.times c.in-Call.is c.run_call-o.ensures
-      c.in-Returned.is, i.1, i.2, i.3)
+    let a = c.args in (
+      Going.call_returned a.tape.now a.table.now a.set a.first a.buf.now i.1.header a.program a.calls a.run i.0 c.take_step-done.ensures c.in-Call.called c.in-Call.times c.in-Call.is c.run_call-o.ensures
+          c.in-Returned.is,
+      i.1,
+      i.2,
+      i.3,
+    )
 
 pub run_program-returns-in_default : goal.run_program-returns-in_default
 run_program-returns-in_default t c =

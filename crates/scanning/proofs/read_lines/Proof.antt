@@ -7,6 +7,7 @@ use mathlib.Core.List.{List}
 use Prim.Native.Nat.{ℕ, suc, ◌-◌, ◌<◌, ◌≤◌}
 use lib.ListN.{length}
 use Rattle.alarms.specs.Numbers.{word_rules, places_too_short}
+use Rattle.settings.specs.Wrong.{highest_program}
 use Rattle.places.specs.Places.{sixteen_bits, entry_of, highest_slot}
 use Rattle.tape.specs.Lines.{lines}
 use Rattle.tape.specs.declared.line.Line.{Line}
@@ -150,15 +151,6 @@ returns_4 c =
     refused_as e.before (Other lacks) c.in-Other.is 5 (other_start (g e.before).history lacks (judgement e.before).broken)
 
 -- ---- a program line
-same_length_5 : tie.Need-shape_of-places-then-n-gt-HIGHEST_PROGRAM invariant_loop decreases_loop
-same_length_5 c = size_is (g c.before.before)
-
-returns_5 : tie.Need-returns-then-n-gt-HIGHEST_PROGRAM invariant_loop decreases_loop
-returns_5 c =
-    let h = c in
-    let e = h in
-    refused_as e.before.before (ProgramLine h.in-ProgramLine.n) h.in-ProgramLine.is 5 (program_above (g e.before.before) h.in-ProgramLine.n (judgement e.before.before).broken c.if-n-gt-HIGHEST_PROGRAM.true)
-
 holds_requires : tie.Need-holds-requires invariant_loop decreases_loop
 holds_requires c κs = let e = c in (count_in_lem (g e.before.before.before), row_ascends (g e.before.before.before))
 
@@ -169,16 +161,20 @@ module _ (w : tie.After-holds invariant_loop decreases_loop) where
   abbrev n3 : ℕ
   n3 = w.in-ProgramLine.n
 
+  -- that the number is not above the highest is read off by `omega`, so that another bound is refused for what it fails
+  low3 : n3 ≤ highest_program
+  low3 = omega arith
+
   is3 : (judgement e3).head ≡ ProgramLine n3
   is3 = w.in-ProgramLine.is
 
   repeated3 : w.holds.result ≡ true → head_alarm (g e3).history (ProgramLine n3) (judgement e3).broken ≡ 6
   repeated3 t =
-      program_repeated (g e3) n3 (judgement e3).broken w.if-n-gt-HIGHEST_PROGRAM.false w.key_of-key.result w.key_of-key.ensures w.holds.result w.holds.ensures t
+      program_repeated (g e3) n3 (judgement e3).broken low3 w.key_of-key.result w.key_of-key.ensures w.holds.result w.holds.ensures t
 
   new3 : w.holds.result ≡ false → head_alarm (g e3).history (ProgramLine n3) (judgement e3).broken ≡ cond (judgement e3).broken word_rules 0
   new3 t =
-      program_new (g e3) n3 (judgement e3).broken w.if-n-gt-HIGHEST_PROGRAM.false w.key_of-key.result w.key_of-key.ensures w.holds.result w.holds.ensures t
+      program_new (g e3) n3 (judgement e3).broken low3 w.key_of-key.result w.key_of-key.ensures w.holds.result w.holds.ensures t
 
   by3 : {t : Bool} → w.holds.result ≡ false → (judgement e3).broken ≡ t → head_alarm (g e3).history (ProgramLine n3) (judgement e3).broken ≡ cond t word_rules 0
   by3 f b = new3 f ∙ ap (λ (t : Bool). cond t word_rules 0) b
@@ -206,7 +202,7 @@ returns_8 c =
 entry_of_requires : tie.Need-entry_of-entry-requires invariant_loop decreases_loop
 entry_of_requires c κs =
     let w = c in
-    (omega (arith, w.key_of-key.ensures, w.if-n-gt-HIGHEST_PROGRAM.false), near (e3 w.before.before.before))
+    (omega (arith, w.key_of-key.ensures, low3 w.before.before.before), near (e3 w.before.before.before))
 
 insert_requires : tie.Need-insert-requires invariant_loop decreases_loop
 insert_requires c κs = (c.if-count-places.false, row_ascends (g (e3 c.before.before.before.before.before)))
@@ -228,8 +224,8 @@ loop_again_2 c =
     let w = r in
     let e = e3 w.before.before.before.before.before.before.before.before in
     past_program (g e) (line e).after (further e) (within e) (near e) (n3 w.before.before.before.before.before.before.before.before) i.insert.new.table o.entry_of-entry.result r.if-count-places.false i.insert.ensures
-    (omega (arith, w.if-n-gt-HIGHEST_PROGRAM.false))
-    (program_flag (g e) (n3 w.before.before.before.before.before.before.before.before) (judgement e).broken w.if-n-gt-HIGHEST_PROGRAM.false w.key_of-key.result w.key_of-key.ensures w.holds.result w.holds.ensures ∙ r.if-holds.false)
+    (omega (arith, low3 w.before.before.before.before.before.before.before.before))
+    (program_flag (g e) (n3 w.before.before.before.before.before.before.before.before) (judgement e).broken (low3 w.before.before.before.before.before.before.before.before) w.key_of-key.result w.key_of-key.ensures w.holds.result w.holds.ensures ∙ r.if-holds.false)
     (o.entry_of-entry.ensures ∙ ap (λ (k : ℕ). entry_of k (at e).loop-p.p) w.key_of-key.ensures)
     (onward_as e (ProgramLine (n3 w.before.before.before.before.before.before.before.before)) (is3 w.before.before.before.before.before.before.before.before) (by3 w.before.before.before.before.before.before.before.before r.if-holds.false r.if-judged.false) (program_room (g e) (n3 w.before.before.before.before.before.before.before.before) r.if-count-places.false) (program_on (n3 w.before.before.before.before.before.before.before.before) (judgement e).ends))
 
@@ -379,8 +375,8 @@ read_lines_spec =
     same_length_4
     returns_4
     (λ c. search rules)
-    same_length_5
-    returns_5
+    (λ c. size_is c.loop-p.invariant)
+    (λ c. refused_as c.before.before (ProgramLine c.in-ProgramLine.n) c.in-ProgramLine.is 5 (program_above c.loop-p.invariant c.in-ProgramLine.n c.judge_line-judged.result.broken (omega arith)))
     (λ c κs. search rules)
     holds_requires
     same_length_6

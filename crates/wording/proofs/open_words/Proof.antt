@@ -78,29 +78,16 @@ module _ (k : tie.After-alarm_by-asked) where
   abbrev Came : Opened → Type 0
   Came d = let a = begun.args in OpenMeets a.tape.now a.table.now a.set a.places.now a.count a.room a.frame a.run d
 
--- ---- where that is no alarm
-module _ (e : tie.Else-asked-ne0) where
-  abbrev k : tie.After-alarm_by-asked
-  k = e.before
-
+-- ---- where that is no alarm; that it is none is read off by `omega` below, so that a condition that is another leaves it without a proof
+module _ (k : tie.After-alarm_by-asked) (zero : k.alarm_by-asked.result ≡ 0) where
   fine : alarm_by (onward k) ≡ 0
-  fine = sym k.alarm_by-asked.ensures ∙ e.if-asked-ne0.false
+  fine = sym k.alarm_by-asked.ensures ∙ zero
 
   some : 0 < (begun k).args.run.blocks_left
   some = let a = (begun k).args in asks_some a.set (there k) a.run.blocks_left (block k) (onward k) (asks k) fine
 
 words_of_requires : tie.Need-words_of-b-requires
 words_of_requires c κs = let s = c in behind_number s.args.tape.now s.requires.1
-
-returns : tie.Need-returns-then-asked-ne0
-returns c =
-    let t = c in
-    let k = t in
-    let s = begun k.before.before in
-    let a = s.args in
-    subst (Came k.before.before) (sym c.refused.ensures)
-    (refused_asked a.tape.now a.table.now a.set a.places.now a.count a.room a.frame a.run s.requires.0 a.line.at s.requires.1.first (asked k.before.before)
-    (same_after a.tape.now s.requires.1) s.requires.1.known.ends k.alarm_by-asked.ensures t.if-asked-ne0.true)
 
 judge_block_requires : tie.Need-judge_block-verdict-requires
 judge_block_requires c κs =
@@ -114,6 +101,7 @@ origin_of_requires c κs = (begun c.before.before.before.before.before).requires
 open_going_requires : tie.Need-open_going-requires
 unfolding going_of
 open_going_requires c κs =
+    let zero : c.alarm_by-asked.result ≡ 0 = omega arith in
     let m = c in
     let j = m in
     let e = j in
@@ -127,12 +115,13 @@ open_going_requires c κs =
       subst (λ (x : Going). Right x.deed) (sym w.is) (right_in a.table.now a.set a.run.state b left w.well),
       subst Known m.in-Goes.is j.judge_block-verdict.ensures.1,
       subst (λ (x : Going). x.count ≡ length (doing x.deed)) (sym w.is) (counted_in a.table.now a.set a.run.state b left w.well),
-      some e.before.before.before.before.before,
+      some k.before.before.before.before.before.before zero,
       omega (arith, few, ap length (going_records a.table.now a.set a.run.state b w.is), s.requires.0.few, s.requires.0.limit),
     )
 
 returns_2 : tie.Need-returns-in-Refused
 returns_2 c =
+    let zero : c.alarm_by-asked.result ≡ 0 = omega arith in
     let m = c in
     let j = m in
     let e = j in
@@ -144,10 +133,11 @@ returns_2 c =
     (sym (j.judge_block-verdict.ensures.0 ∙ ap (λ (b : Block). verdict_of a.table.now a.set a.run.state b left) (words k.before.before.before.before.before.before)) ∙ m.in-Refused.is) in
     subst (Came k.before.before.before.before.before.before) (sym c.refused-in-Refused.ensures)
     (refused_own a.tape.now a.table.now a.set a.places.now a.count a.room a.frame a.run s.requires.0 a.line.at s.requires.1.first (asked k.before.before.before.before.before.before)
-    (same_after a.tape.now s.requires.1) s.requires.1.known.ends (fine e.before.before.before.before.before) w.is (λ z. w.some (sym w.is ∙ z)))
+    (same_after a.tape.now s.requires.1) s.requires.1.known.ends (fine k.before.before.before.before.before.before zero) w.is (λ z. w.some (sym w.is ∙ z)))
 
 returns_3 : tie.Need-returns-in-Goes
 returns_3 c =
+    let zero : c.alarm_by-asked.result ≡ 0 = omega arith in
     let o = c in
     let m = o in
     let j = m in
@@ -162,7 +152,7 @@ returns_3 c =
     let state = going_state a.table.now a.set a.run.state b w.is ∙ ap (done_state a.table.now a.set a.run.state) (words k.before.before.before.before.before.before.before) in
     let g = c.open_going.ensures in
     gone a.tape.now a.table.now a.set a.places.now a.count a.room a.frame a.run s.requires.0 a.line.at s.requires.1.first (asked k.before.before.before.before.before.before.before)
-    (same_after a.tape.now s.requires.1) s.requires.1.known.ends (fine e.before.before.before.before.before.before) (some e.before.before.before.before.before.before) (asks_stops a.set (there k.before.before.before.before.before.before.before) a.run.blocks_left (block k.before.before.before.before.before.before.before) (onward k.before.before.before.before.before.before.before) (asks k.before.before.before.before.before.before.before))
+    (same_after a.tape.now s.requires.1) s.requires.1.known.ends (fine k.before.before.before.before.before.before.before zero) (some k.before.before.before.before.before.before.before zero) (asks_stops a.set (there k.before.before.before.before.before.before.before) a.run.blocks_left (block k.before.before.before.before.before.before.before) (onward k.before.before.before.before.before.before.before) (asks k.before.before.before.before.before.before.before))
     (sym (ap (λ (b : Block). alarm_in a.table.now a.set a.run.state b left) (words k.before.before.before.before.before.before.before)) ∙ w.well)
     c.open_going.result o.origin_of-origin.result
     (g.came ∙ (λ i. went_by (onward k.before.before.before.before.before.before.before) (state i) a.run (a.run.count + length (records i)) a.line.after))
@@ -181,7 +171,13 @@ open_words_spec =
     (λ c κs. search rules)
     (λ c κs. search rules)
     (λ c κs. search rules)
-    returns
+    (λ c.
+    let alarm : c.alarm_by-asked.result ≡ 0 → ⊥ = grind arith in
+    let s = begun c.before.before in
+    let a = s.args in
+    subst (Came c.before.before) (sym c.refused.ensures)
+    (refused_asked a.tape.now a.table.now a.set a.places.now a.count a.room a.frame a.run s.requires.0 a.line.at s.requires.1.first (asked c.before.before)
+    (same_after a.tape.now s.requires.1) s.requires.1.known.ends c.alarm_by-asked.ensures alarm))
     (λ c. search rules)
     (λ c. search rules)
     judge_block_requires
