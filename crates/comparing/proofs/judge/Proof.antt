@@ -6,16 +6,16 @@ use borrow.Author.Rules.{rules}
 use Rattle.comparing.proofs.judge.Statement.{statement}
 use Rattle.comparing.proofs.judge.Tie as tie
 
-slice_aggregate_judge_both : tie.Need-slice-aggregate-judge-both
-slice_aggregate_judge_both c = let n = c.before.before.before.before.before.before.before.numbers_of in sym (length-take-le n.result _ (omega (arith, n.ensures)))
+slice_aggregate_judge_both : tie.Need-slice_bounds-judge_both-end
+slice_aggregate_judge_both c = let n = c.numbers_of-numbers in sym (length-take-le n.result _ (omega (arith, n.ensures)))
 
-slice_aggregate_judge_both_3 : tie.Need-slice-aggregate-judge-both-3
-slice_aggregate_judge_both_3 c = let n = c.before.before.before.before.before.held_of in sym (length-take-le n.result _ (omega (arith, n.ensures)))
+slice_aggregate_judge_both_3 : tie.Need-slice_bounds-judge_both-end-3
+slice_aggregate_judge_both_3 c = let n = c.held_of-held in sym (length-take-le n.result _ (omega (arith, n.ensures)))
 
-slice_aggregate_judge_both_4 : tie.Need-slice-aggregate-judge-both-4
+slice_aggregate_judge_both_4 : tie.Need-slice_bounds-judge_both-end-4
 slice_aggregate_judge_both_4 c =
-    let n = c.before.before.before.before.before.before.before.before.bytes_of in
-    let made = c.before.before.before.before.before.before.before.before.before.before.before.before.large-buffer in
+    let n = c.bytes_of-bytes in
+    let made = c.large_buffer-space in
     sym (length-take-le n.result made.result (omega (arith, made.ensures, n.ensures)))
 
 pub judge_spec : {M : Type 1} → statement M

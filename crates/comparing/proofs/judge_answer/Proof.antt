@@ -6,8 +6,8 @@ use borrow.Author.Rules.{rules}
 use Rattle.comparing.proofs.judge_answer.Statement.{statement}
 use Rattle.comparing.proofs.judge_answer.Tie as tie
 
-slice_aggregate_compare : tie.Need-slice-aggregate-compare
-slice_aggregate_compare c = let l = c.before.before.put-listing in sym (length-take-le l.result l.new.1.1.0 (omega (arith, l.ensures.1.1, l.auto)))
+slice_aggregate_compare : tie.Need-slice_bounds-compare-end
+slice_aggregate_compare c = let l = c.put_listing-n in sym (length-take-le l.result l.new.out (omega (arith, l.ensures.1.1, l.auto)))
 
 pub judge_answer_spec : {M : Type 1} → statement M
 judge_answer_spec =

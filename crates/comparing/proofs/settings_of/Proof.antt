@@ -11,19 +11,19 @@ use Rattle.comparing.proofs.settings_of.Tie as tie
 
 returns : tie.Need-returns
 returns c =
-    let g : List ℤ = c.before.before.before.before.before.before.before.before.before.before.before.args.given.now in
+    let g : List ℤ = c.args.given.now in
     λ i.
-    to_z-of_z {z = setting_at g main_at} (sfits_of {w = w32} c.before.before.before.before.before.before.before.before.before.before.t4.given) i
-    ∷ to_z-of_z {z = setting_at g lowest_subroutine_at} (sfits_of {w = w32} c.before.before.before.before.before.before.before.before.before.t7.given) i
-    ∷ to_z-of_z {z = setting_at g retract_at} (sfits_of {w = w32} c.before.before.before.before.before.before.before.before.t10.given) i
-    ∷ to_z-of_z {z = setting_at g start_x_at} (sfits_of {w = w32} c.before.before.before.before.before.before.before.t13.given) i
-    ∷ to_z-of_z {z = setting_at g start_z_at} (sfits_of {w = w32} c.before.before.before.before.before.before.t16.given) i
-    ∷ to_z-of_z {z = setting_at g x_lowest_at} (sfits_of {w = w32} c.before.before.before.before.before.t19.given) i
-    ∷ to_z-of_z {z = setting_at g x_highest_at} (sfits_of {w = w32} c.before.before.before.before.t22.given) i
-    ∷ to_z-of_z {z = setting_at g z_lowest_at} (sfits_of {w = w32} c.before.before.before.t25.given) i
-    ∷ to_z-of_z {z = setting_at g z_highest_at} (sfits_of {w = w32} c.before.before.t28.given) i
-    ∷ to_z-of_z {z = setting_at g empty_cuts_at} (sfits_of {w = w32} c.before.t31.given) i
-    ∷ to_z-of_z {z = setting_at g points_at} (sfits_of {w = w32} c.t34.given) i
+    to_z-of_z {z = setting_at g main_at} (sfits_of {w = w32} c.result-1.given) i
+    ∷ to_z-of_z {z = setting_at g lowest_subroutine_at} (sfits_of {w = w32} c.result-2-1.given) i
+    ∷ to_z-of_z {z = setting_at g retract_at} (sfits_of {w = w32} c.result-3-1.given) i
+    ∷ to_z-of_z {z = setting_at g start_x_at} (sfits_of {w = w32} c.result-4-1.given) i
+    ∷ to_z-of_z {z = setting_at g start_z_at} (sfits_of {w = w32} c.result-5-1.given) i
+    ∷ to_z-of_z {z = setting_at g x_lowest_at} (sfits_of {w = w32} c.result-6-1.given) i
+    ∷ to_z-of_z {z = setting_at g x_highest_at} (sfits_of {w = w32} c.result-7-1.given) i
+    ∷ to_z-of_z {z = setting_at g z_lowest_at} (sfits_of {w = w32} c.result-8-1.given) i
+    ∷ to_z-of_z {z = setting_at g z_highest_at} (sfits_of {w = w32} c.result-9-1.given) i
+    ∷ to_z-of_z {z = setting_at g empty_cuts_at} (sfits_of {w = w32} c.result-10-1.given) i
+    ∷ to_z-of_z {z = setting_at g points_at} (sfits_of {w = w32} c.result-11-1.given) i
     ∷ []
 
 pub settings_of_spec : {M : Type 1} → statement M

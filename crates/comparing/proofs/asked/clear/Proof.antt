@@ -7,14 +7,14 @@ use borrow.Author.Rules.{rules}
 use Rattle.comparing.proofs.asked.clear.Statement.{statement}
 use Rattle.comparing.proofs.asked.clear.Tie as tie
 
-abbrev invariant_loop : tie.invariant-loop
+abbrev invariant_loop : tie.invariant-loop-i
 invariant_loop places₀ i₀ places i = (i ≤ length places₀) × (length places ≡ length places₀)
 
-abbrev decreases_loop : tie.decreases-loop
+abbrev decreases_loop : tie.decreases-loop-i
 decreases_loop places₀ i₀ places i = length places₀ - i
 
-loop_again : tie.Need-loop-preserved invariant_loop decreases_loop
-loop_again c = let l = c.before.loop in (omega arith, length-set l.places l.i 1 ∙ l.invariant.1)
+loop_again : tie.Need-loop-i-preserved invariant_loop decreases_loop
+loop_again c = let l = c.loop-i in (omega arith, length-set l.places l.i 1 ∙ l.invariant.1)
 
 pub clear_spec : {M : Type 1} → statement M
 clear_spec =

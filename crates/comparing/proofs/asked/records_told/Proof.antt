@@ -6,10 +6,10 @@ use borrow.Author.Rules.{rules}
 use Rattle.comparing.proofs.asked.records_told.Statement.{statement}
 use Rattle.comparing.proofs.asked.records_told.Tie as tie
 
-abbrev invariant_loop : tie.invariant-loop
+abbrev invariant_loop : tie.invariant-loop-k
 invariant_loop tape table settings places state₀ list count k₀ state k = (k ≤ count) × (length state ≡ length state₀)
 
-abbrev decreases_loop : tie.decreases-loop
+abbrev decreases_loop : tie.decreases-loop-k
 decreases_loop tape table settings places state₀ list count k₀ state k = count - k
 
 pub records_told_spec : {M : Type 1} → statement M

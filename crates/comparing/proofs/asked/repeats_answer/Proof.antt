@@ -6,10 +6,10 @@ use borrow.Author.Rules.{rules}
 use Rattle.comparing.proofs.asked.repeats_answer.Statement.{statement}
 use Rattle.comparing.proofs.asked.repeats_answer.Tie as tie
 
-abbrev invariant_loop : tie.invariant-loop
+abbrev invariant_loop : tie.invariant-loop-asks
 invariant_loop tape table settings places state₀ packed asks₀ state asks = (asks ≤ 3) × (length state ≡ length state₀)
 
-abbrev decreases_loop : tie.decreases-loop
+abbrev decreases_loop : tie.decreases-loop-asks
 decreases_loop tape table settings places state₀ packed asks₀ state asks = 3 - asks
 
 pub repeats_answer_spec : {M : Type 1} → statement M
