@@ -16,73 +16,59 @@ use Rattle.onemove.proofs.Asking.{to_end, empty_hand, run_phase, given_ask, not_
 use Rattle.onemove.proofs.next.Statement.{statement}
 use Rattle.onemove.proofs.next.Tie as tie
 
--- words and bytes that may be asked
-module _ (e : tie.Else-record-lt-RECORD_SIZE) where
-  abbrev begun : tie.Start
-  begun = e.before.before.before.before.before.before
-
-  long : length begun.args.state.now ≡ state_words
-  long = e.if-state-ne-STATE_WORDS.false
-
 returns : tie.Need-returns-then-state-ne-STATE_WORDS
 returns c = let a = c.args in next_other a.tape.now a.table.now a.settings.now a.places.now a.state.now a.«record».now c.if-state-ne-STATE_WORDS.true
-
-returns_2 : tie.Need-returns-then-record-lt-RECORD_SIZE
-returns_2 c = let a = c.args in next_short a.tape.now a.table.now a.settings.now a.places.now a.state.now a.«record».now c.if-record-lt-RECORD_SIZE.true
 
 first_words : (w : List ℕ) → length w ≡ state_words → length (take 27 w) ≡ 27
 first_words w e = length-take-le 27 w (omega (arith, e))
 
 slice_aggregate_is_empty : tie.Need-slice_bounds-is_empty-end-2
-slice_aggregate_is_empty c = sym (first_words (begun c).args.state.now (long c))
+slice_aggregate_is_empty c = sym (first_words c.args.state.now c.if-state-ne-STATE_WORDS.false)
 
 is_empty_requires : tie.Need-is_empty-requires
-is_empty_requires c κs = first_words (begun c).args.state.now (long c)
+is_empty_requires c κs = first_words c.args.state.now c.if-state-ne-STATE_WORDS.false
 
 give_next_requires : tie.Need-give_next-requires
 give_next_requires c κs =
     let t = c in
     let e = c in
-    (long e.before.before.before.before, sym t.is_empty.ensures ∙ t.if-not-is_empty.true, e.if-record-lt-RECORD_SIZE.false)
+    (e.if-state-ne-STATE_WORDS.false, sym t.is_empty.ensures ∙ t.if-not-is_empty.true, (omega arith))
 
 returns_3 : tie.Need-returns-then-give_next
 returns_3 c =
     let g = c.give_next in
     let e = c in
-    let a = (begun e.before.before.before.before.before.before.before.before.before.before).args in
-    next_asks a.tape.now a.table.now a.settings.now a.places.now a.state.now a.«record».now (long e.before.before.before.before.before.before.before.before.before.before) e.if-record-lt-RECORD_SIZE.false _ g.new.state g.new.record
-    (given_ask a.tape.now a.table.now a.settings.now a.places.now a.state.now a.«record».now g.new.state g.new.record g.result (long e.before.before.before.before.before.before.before.before.before.before) g.ensures c.if-give_next.true)
+    let a = e.args in
+    next_asks a.tape.now a.table.now a.settings.now a.places.now a.state.now a.«record».now e.if-state-ne-STATE_WORDS.false (omega arith) _ g.new.state g.new.record
+    (given_ask a.tape.now a.table.now a.settings.now a.places.now a.state.now a.«record».now g.new.state g.new.record g.result e.if-state-ne-STATE_WORDS.false g.ensures c.if-give_next.true)
 
 returns_4 : tie.Need-returns-then-not-is_empty
 returns_4 c =
     let g = c.give_next in
     let e = c in
-    let a = (begun e.before.before.before.before.before.before.before.before.before.before).args in
-    next_asks a.tape.now a.table.now a.settings.now a.places.now a.state.now a.«record».now (long e.before.before.before.before.before.before.before.before.before.before) e.if-record-lt-RECORD_SIZE.false _ g.new.state g.new.record
+    let a = e.args in
+    next_asks a.tape.now a.table.now a.settings.now a.places.now a.state.now a.«record».now e.if-state-ne-STATE_WORDS.false (omega arith) _ g.new.state g.new.record
     (not_given_ask a.tape.now a.table.now a.settings.now a.places.now a.state.now a.«record».now g.new.state g.new.record g.result g.ensures c.if-give_next.false)
 
 -- nothing is in hand, and what the run has come to
 module _ (k : tie.After-phase_of-phase) where
-  abbrev asked : tie.Else-record-lt-RECORD_SIZE
-  asked = k.before.before.before.before
+  none : hand_in k.args.state.now ≡ Nothing
+  none = let t = k in empty_hand k.args.state.now (sym t.is_empty.ensures ∙ t.if-not-is_empty.false)
 
-  none : hand_in (begun asked).args.state.now ≡ Nothing
-  none = let t = k in empty_hand (begun asked).args.state.now (sym t.is_empty.ensures ∙ t.if-not-is_empty.false)
-
-  is_phase : (run_in (begun asked).args.state.now).phase ≡ k.phase_of-phase.result
-  is_phase = run_phase (begun asked).args.state.now ∙ sym (k.phase_of-phase.ensures ∙ ap phase_of (to_end (begun asked).args.state.now 54))
+  is_phase : (run_in k.args.state.now).phase ≡ k.phase_of-phase.result
+  is_phase = run_phase k.args.state.now ∙ sym (k.phase_of-phase.ensures ∙ ap phase_of (to_end k.args.state.now 54))
 
 go_on_requires : tie.Need-go_on-requires
 go_on_requires c κs =
     let k = c in
-    (long (asked k.before.before.before.before.before), none k.before.before.before.before.before, is_phase k.before.before.before.before.before ∙ c.in-Running.is, (asked k.before.before.before.before.before).if-record-lt-RECORD_SIZE.false)
+    (k.if-state-ne-STATE_WORDS.false, none k.before.before.before.before.before, is_phase k.before.before.before.before.before ∙ c.in-Running.is, (omega arith))
 
 -- an answer with a place or a count of more than 16 bits
 returns_5 : tie.Need-returns-then-not-is_fitting
 returns_5 c =
     let k = c in
-    let a = (begun (asked k.before.before)).args in
-    next_asks a.tape.now a.table.now a.settings.now a.places.now a.state.now a.«record».now (long (asked k.before.before)) (asked k.before.before).if-record-lt-RECORD_SIZE.false _ a.state.now a.«record».now
+    let a = k.args in
+    next_asks a.tape.now a.table.now a.settings.now a.places.now a.state.now a.«record».now k.if-state-ne-STATE_WORDS.false (omega arith) _ a.state.now a.«record».now
     (unfitting_ask a.tape.now a.table.now a.settings.now a.places.now a.state.now a.«record».now (none k.before.before) k.phase_of-phase.result (is_phase k.before.before)
     (told_no c.is_fitting.ensures c.if-not-is_fitting.true))
 
@@ -90,8 +76,8 @@ returns_6 : tie.Need-returns-in-Over
 returns_6 c =
     let fits = c in
     let k = fits in
-    let a = (begun (asked k.before.before.before)).args in
-    next_asks a.tape.now a.table.now a.settings.now a.places.now a.state.now a.«record».now (long (asked k.before.before.before)) (asked k.before.before.before).if-record-lt-RECORD_SIZE.false _ a.state.now a.«record».now
+    let a = k.args in
+    next_asks a.tape.now a.table.now a.settings.now a.places.now a.state.now a.«record».now k.if-state-ne-STATE_WORDS.false (omega arith) _ a.state.now a.«record».now
     (over_ask a.tape.now a.table.now a.settings.now a.places.now a.state.now a.«record».now (none k.before.before.before) c.in-Over.again (is_phase k.before.before.before ∙ c.in-Over.is)
     (subst Answers c.in-Over.is (fits.is_fitting.ensures.0 fits.if-not-is_fitting.false)))
 
@@ -99,8 +85,8 @@ returns_7 : tie.Need-returns-in-Running
 returns_7 c =
     let g = c.go_on in
     let k = c in
-    let a = (begun (asked k.before.before.before.before.before.before.before.before.before.before)).args in
-    next_asks a.tape.now a.table.now a.settings.now a.places.now a.state.now a.«record».now (long (asked k.before.before.before.before.before.before.before.before.before.before)) (asked k.before.before.before.before.before.before.before.before.before.before).if-record-lt-RECORD_SIZE.false g.result g.new.state g.new.record g.ensures
+    let a = k.args in
+    next_asks a.tape.now a.table.now a.settings.now a.places.now a.state.now a.«record».now k.if-state-ne-STATE_WORDS.false (omega arith) g.result g.new.state g.new.record g.ensures
 
 pub next_spec : {M : Type 1} → statement M
-next_spec = tie.close (tie.spec returns returns_2 (λ c. search rules) slice_aggregate_is_empty is_empty_requires give_next_requires (λ c. search rules) (λ c. search rules) returns_3 (λ c. search rules) (λ c. search rules) returns_4 (λ c. search rules) (λ c. search rules) (λ c. search rules) (λ c κs. search rules) (λ c κs. search rules) (λ c. search rules) returns_5 (λ c. search rules) (λ c. search rules) go_on_requires (λ c. search rules) returns_6 (λ c. search rules) (λ c. search rules) returns_7)
+next_spec = tie.close (tie.spec returns (λ c. let a = c.args in next_short a.tape.now a.table.now a.settings.now a.places.now a.state.now a.«record».now (omega arith)) (λ c. search rules) slice_aggregate_is_empty is_empty_requires give_next_requires (λ c. search rules) (λ c. search rules) returns_3 (λ c. search rules) (λ c. search rules) returns_4 (λ c. search rules) (λ c. search rules) (λ c. search rules) (λ c κs. search rules) (λ c κs. search rules) (λ c. search rules) returns_5 (λ c. search rules) (λ c. search rules) go_on_requires (λ c. search rules) returns_6 (λ c. search rules) (λ c. search rules) returns_7)
