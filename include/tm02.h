@@ -1,8 +1,8 @@
 /* The interpreter of TM02 program tapes and the reader of its lists, as the control's firmware and the axis board call them. `rt lib` in crates/board_c builds it, and c/compare writes it to target/staticlib/libboard.a; c/listmoves.c, c/onemove.c and c/printlist.c are examples.
    The archive is for x86-64 and C's System V calling convention, uses SSE registers, and needs memcpy and memset and nothing else. It has read-only data and no writable data. The
-   convention lets code use the 128 bytes below the stack pointer (the red zone) without moving it, and the kit cannot be told to leave them alone. In an archive of an older compiler tm02_start and
-   tm02_next did so, in two inner functions, and nothing else did; today's was not looked at. c/compare looks for it: have it look at every archive that is built, before an interrupt handler shares the stack of a running
-   call, and let none that does not leave 128 bytes free share the stack of these two. This file needs C99 or C++. The contracts of the functions stand in
+   convention lets code use the 128 bytes below the stack pointer (the red zone) without moving it, and the kit cannot be told to leave them alone. In the archive of today's compiler tm02_interpret,
+   tm02_start and tm02_next do so, in three inner functions (addresses::next_word, statewords::put_due and put_run), the first of which is new: c/compare refuses that archive for it. Have it look at every archive that is built, before an interrupt handler shares the stack of a running
+   call, and let none that does not leave 128 bytes free share the stack of these three. This file needs C99 or C++. The contracts of the functions stand in
    crates/board_c/src/lib.rt, docs/ALARMS.md is the alarm card. */
 #ifndef TM02_H
 #define TM02_H
