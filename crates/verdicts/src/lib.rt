@@ -63,6 +63,7 @@ fn deed_in(table: &[i32], set: Settings, s: State, t: State, b: Block) -> Deed
 }
 
 // What is asked beside the deed, where so many records have room.
+#[tactic(auto, unfolding(crate::specs::Verdicts::asked_in))]
 fn asked_in(s: State, t: State, b: Block, room: u32) -> Asked
     requires { t ≡ settled s b }
     ensures { result ≡ asked_in s b room }
