@@ -93,6 +93,7 @@ pub fn turning_of(b: Block, s: Sending) -> Turning
 }
 
 // "Empty cuts repeat the last pass D4 times, else as a new setting says": a D4 of 0 is no empty cut.
+#[tactic(auto, unfolding(crate::specs::Scaled::empty_cuts))]
 fn empty_cuts(b: Block, setting: u32) -> u32
     requires { Small b }
     ensures { result ≡ empty_cuts b setting }
