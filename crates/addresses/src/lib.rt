@@ -66,17 +66,12 @@ fn number_end(line: &[u8], from: usize) -> usize
     requires { from ≤ length line.now }
     ensures { (result ≡ seek_from ends_number line.now from) × (from ≤ result) × (result ≤ length line.now) }
 {
-    let mut i = from;
-    let r = loop {
-        if i >= line.len() {
-            break i;
-        }
+    for i in from..line.len() {
         if ends_number(line[i]) {
-            break i;
+            return i;
         }
-        i += 1;
-    };
-    r
+    }
+    line.len()
 }
 
 // The form of number that an address takes, which is a capital.

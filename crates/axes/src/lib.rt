@@ -1,4 +1,4 @@
-// What the cycles have in common: an axis with its allowance, a move named by the axis that goes in and the one across it, and whether a place lies outside the soft limits.
+// What the cycles have in common: an axis with its allowance, a move named by the axis that goes in and the one across it, the records of a pass, and whether a place lies outside the soft limits.
 // A cycle knows its axes by what they do; which of them is X is said once, by `facing`.
 // Of an axis stand here the distance from its start to its target, less what is left standing there, and the line where it ends. Positions lie on either side of each other: distance and side are worked out around zero.
 #![tactic(auto)]
@@ -15,6 +15,15 @@ pub struct Axis {
     pub start: i32,
     pub target: i32,
     pub allowance: u32,
+}
+
+// Which record of a pass comes next, of a turning cycle and of a thread. 01: "rapid X to the pass line; feed Z to the end line; feed X to the start X; rapid Z to the start Z". 02: "A pass is rapid in, thread, rapid out, rapid back."
+#[derive(Clone, Copy)]
+pub enum Stage {
+    In,
+    Cut,
+    Out,
+    Back,
 }
 
 // The distance from start to target.

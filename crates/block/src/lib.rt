@@ -124,12 +124,6 @@ pub enum Slot {
     Unknown,
 }
 
-fn wide(b: u8) -> usize
-    ensures { result ≡ b }
-{
-    b as usize
-}
-
 // The slot of a G word and of an M word: that of its group.
 fn g_slot(n: u32) -> Slot
     ensures { (result ≡ code_slot (g_code n) g_slot) × SlotIn result }
@@ -157,7 +151,7 @@ fn slot_of(w: Word) -> Slot
     ensures { (result ≡ slot_of w) × SlotIn result }
 {
     let address = w.address;
-    let index = wide(w.index);
+    let index = usize::from(w.index);
     match address {
         b'X' => Slot::At(X),
         b'Z' => Slot::At(Z),

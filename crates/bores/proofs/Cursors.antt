@@ -170,6 +170,10 @@ module _ (c : Cursor) (s : Sound c) where
   unfolding rest_of rest_at
   draws_back z = record { first = here c z; sound = restaged c Bite s (is_ready c z s) }
 
+  -- to the depth reached less the retract
+  pub drawn : c.stage ≡ Back → {t : ℕ} {n : Record} {e : Cursor} → t ≡ c.deep - c.bore.back → n ≡ out_to c.bore (deep_at c.bore t) → e ≡ at c Bite → Makes c n e
+  drawn z d m b = made (draws_back z) (m ∙ ap (λ (t : ℕ). out_to c.bore (deep_at c.bore t)) d) b
+
   pub dwells : c.stage ≡ Dwell → Makes c (dwell c.bore.x c.bore.target c.bore.dwell) (at c Out)
   unfolding rest_of rest_at
   dwells z = record { first = here c z; sound = restaged c Out s tt }

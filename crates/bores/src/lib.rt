@@ -9,7 +9,7 @@ ghost use Rattle.bores.specs.declared.Stage.TheVariants.{Bite, Home, Back, Dwell
 ghost use Rattle.bores.specs.Cursor.{rest_of, over, at, after_bite, after_last, bitten, bottomed, Sound, Makes};
 
 use drilling::Bore;
-use moves::Record;
+use moves::{Handed, Record};
 
 // Which record comes next: a bite, the rapid to the start between two bites (G88), the rapid to the retract short of the depth reached, the dwell, the rapid to the start at the end, or none.
 #[derive(Clone, Copy)]
@@ -30,12 +30,6 @@ pub struct Cursor {
     pub deep: u32,
     pub bite: u32,
     pub left: u32,
-}
-
-#[derive(Clone, Copy)]
-pub struct Handed {
-    pub record: Record,
-    pub rest: Cursor,
 }
 
 // The first bite: all of the stroke where none is asked for.
@@ -80,7 +74,7 @@ pub fn is_over(c: Cursor) -> bool
 }
 
 // The next record, and what is left behind it.
-pub fn next(c: Cursor) -> Handed
+pub fn next(c: Cursor) -> Handed<Cursor>
     requires { Sound c × (over c ≡ false) }
     ensures { Makes c result.record result.rest }
 {
@@ -136,28 +130,11 @@ fn dwell_of(b: Bore) -> Record
     Record::dwell(b.x, b.target, b.dwell)
 }
 
-// What is left of t less `back`, and no less than 0.
-fn drawn_back(t: u32, back: u32) -> u32
-    ensures { result ≡ t - back }
-{
-    if t < back {
-        return 0;
-    }
-    t - back
-}
-
 // The same cursor at another of its records.
 fn at_stage(c: Cursor, stage: Stage) -> Cursor
     ensures { result ≡ at c stage }
 {
-    let bore = c.bore;
-    Cursor {
-        bore,
-        stage,
-        deep: c.deep,
-        bite: c.bite,
-        left: c.left,
-    }
+    Cursor { stage, ..c }
 }
 
 // Which stage follows a bite that is not the last, and which the last one.
@@ -190,11 +167,11 @@ fn bite_off(c: Cursor) -> Cursor
     let bite = bites::next_bite(c.bite, bore.less, bore.least);
     let left = c.left - c.bite;
     Cursor {
-        bore,
         stage,
         deep,
         bite,
         left,
+        ..c
     }
 }
 
@@ -206,18 +183,16 @@ fn reach_bottom(c: Cursor) -> Cursor
     let bore = c.bore;
     let stage = after_last(bore.dwell);
     let deep = c.deep + c.left;
-    let bite = c.bite;
     Cursor {
-        bore,
         stage,
         deep,
-        bite,
         left: 0,
+        ..c
     }
 }
 
 // A bite that is not the last.
-fn bite_more(c: Cursor) -> Handed
+fn bite_more(c: Cursor) -> Handed<Cursor>
     requires { Sound c × (c.stage ≡ Bite) × (c.bite < c.left) }
     ensures { Makes c result.record result.rest }
 {
@@ -229,7 +204,7 @@ fn bite_more(c: Cursor) -> Handed
 }
 
 // The last bite.
-fn bite_last(c: Cursor) -> Handed
+fn bite_last(c: Cursor) -> Handed<Cursor>
     requires { Sound c × (c.stage ≡ Bite) × (c.left ≤ c.bite) }
     ensures { Makes c result.record result.rest }
 {
@@ -240,7 +215,7 @@ fn bite_last(c: Cursor) -> Handed
     Handed { record, rest }
 }
 
-fn bite(c: Cursor) -> Handed
+fn bite(c: Cursor) -> Handed<Cursor>
     requires { Sound c × (c.stage ≡ Bite) }
     ensures { Makes c result.record result.rest }
 {
@@ -251,7 +226,7 @@ fn bite(c: Cursor) -> Handed
 }
 
 // The rapid to the start between two bites.
-fn go_home(c: Cursor) -> Handed
+fn go_home(c: Cursor) -> Handed<Cursor>
     requires { Sound c × (c.stage ≡ Home) }
     ensures { Makes c result.record result.rest }
 {
@@ -262,19 +237,19 @@ fn go_home(c: Cursor) -> Handed
 }
 
 // The rapid to the retract short of the depth reached, not past the start.
-fn draw_back(c: Cursor) -> Handed
+fn draw_back(c: Cursor) -> Handed<Cursor>
     requires { Sound c × (c.stage ≡ Back) }
     ensures { Makes c result.record result.rest }
 {
     let b = c.bore;
-    let t = drawn_back(c.deep, b.back);
+    let t = c.deep.saturating_sub(b.back);
     let record = rapid_at(b, t);
     let rest = at_stage(c, Stage::Bite);
     Handed { record, rest }
 }
 
 // "D4 dwells at the target"
-fn dwell(c: Cursor) -> Handed
+fn dwell(c: Cursor) -> Handed<Cursor>
     requires { Sound c × (c.stage ≡ Dwell) }
     ensures { Makes c result.record result.rest }
 {
@@ -285,7 +260,7 @@ fn dwell(c: Cursor) -> Handed
 }
 
 // "then rapid to the start"
-fn go_out(c: Cursor) -> Handed
+fn go_out(c: Cursor) -> Handed<Cursor>
     requires { Sound c × (c.stage ≡ Out) }
     ensures { Makes c result.record result.rest }
 {

@@ -15,7 +15,18 @@ ghost use Rattle.stored.specs.Texts.{FromOne};
 use std::io::Write;
 use std::rt::{Env, Files};
 use std::{env, io};
+use stored::card::Pairs;
 use stored::compare::Verdict;
+
+// The files of data/ that hold cases.
+const FILES: [&str; 6] = [
+    "threads.cases",
+    "threads-refused.cases",
+    "points.cases",
+    "drilling.cases",
+    "arcs.cases",
+    "blocks.cases",
+];
 
 // What stands between a tape and its listing, and what ends a case.
 const BEHIND_TAPE: u8 = 29;
@@ -31,39 +42,23 @@ const MOST_BYTES: usize = 65_536;
 // The most bytes that are read of an example's settings.
 const MOST_SETTINGS: usize = 4_096;
 
-fn show_verdict<W: Write>(out: &mut W, verdict: Verdict) -> io::Result<()> {
-    match verdict {
-        Verdict::Agrees => writeln!(out, " agrees"),
-        Verdict::Differs(line) => writeln!(out, " DIFFERS at line {line}"),
-        Verdict::Unread => writeln!(out, " HAS NO SETTINGS"),
-    }
-}
-
 // Takes a case apart, and writes its name and what came of it.
 fn show_case<W: Write>(out: &mut W, case: &[u8]) -> io::Result<()> {
-    let first = tape::line::line_at(case, 0);
-    let name = first.stop;
-    let settings = first.after;
-    out.write_all(&case[0..name])?;
-    let behind = stored::text::find(case, settings, BEHIND_TAPE);
-    if behind >= case.len() {
-        return writeln!(out, " HAS NO LISTING");
+    let (name, rest) = stored::text::split_line(case);
+    out.write_all(name)?;
+    match stored::text::split_once(rest, BEHIND_TAPE) {
+        Some((case, want)) => {
+            let verdict = comparing::judge_case(case, want);
+            writeln!(out, " {verdict}")
+        }
+        None => writeln!(out, " HAS NO LISTING"),
     }
-    let want = behind + 1;
-    let verdict = comparing::judge_case(&case[0..behind], settings, &case[want..]);
-    show_verdict(out, verdict)
 }
 
 // One case after the other.
 fn show_cases<W: Write>(out: &mut W, all: &[u8]) -> io::Result<()> {
-    let mut p = 0;
-    while p < all.len() {
-        let end = stored::text::find(all, p, BEHIND_LISTING);
-        show_case(out, &all[p..end])?;
-        if end >= all.len() {
-            return Ok(());
-        }
-        p = end + 1;
+    for case in all.split_inclusive(|byte| *byte == BEHIND_LISTING) {
+        show_case(out, case.strip_suffix(&[BEHIND_LISTING]).unwrap_or(case))?;
     }
     Ok(())
 }
@@ -76,32 +71,17 @@ fn show_file<R: Files + AllocGlobal, W: Write>(rt: &R, out: &mut W, name: &str) 
 
 // Writes what a tape of the card must give, and what came of it.
 fn show_alarm<W: Write>(out: &mut W, case: &[u8], want: &[u8]) -> io::Result<()> {
-    let end = stored::text::find(want, 0, b'\n');
+    let end = stored::text::find(want, b'\n').unwrap_or(want.len());
     out.write_all(b"card ")?;
-    out.write_all(&want[0..end])?;
-    show_verdict(out, comparing::judge_case(case, 0, want))
+    out.write_all(&want[..end])?;
+    let verdict = comparing::judge_case(case, want);
+    writeln!(out, " {verdict}")
 }
 
 // One pair after the other, until none is left.
 fn show_card<W: Write>(out: &mut W, page: &[u8]) -> io::Result<()> {
-    let mut p = 0;
-    while p < page.len() {
-        let case = stored::card::fence_from(page, p);
-        let next = case.after;
-        let want = stored::card::fence_from(page, next);
-        let on = want.after;
-        if want.stop >= page.len() {
-            return Ok(());
-        }
-        if on <= p {
-            return Ok(());
-        }
-        let from = case.from;
-        let stop = case.stop;
-        let first = want.from;
-        let end = want.stop;
-        show_alarm(out, &page[from..stop], &page[first..end])?;
-        p = on;
+    for (case, want) in Pairs(page) {
+        show_alarm(out, case, want)?;
     }
     Ok(())
 }
@@ -109,9 +89,8 @@ fn show_card<W: Write>(out: &mut W, page: &[u8]) -> io::Result<()> {
 // Alarm 2 has no tape on the card: a tape of 65,536 zero bytes is run.
 fn show_long<W: Write>(out: &mut W) -> io::Result<()> {
     let tape = [0u8; MOST_BYTES];
-    out.write_all(b"card ALARM 2 0 0")?;
     let verdict = comparing::judge(&tape, stored::given::usual(), b"ALARM 2 0 0\n");
-    show_verdict(out, verdict)
+    writeln!(out, "card ALARM 2 0 0 {verdict}")
 }
 
 // Judges an example's tape, with what its case gives, by its listing.
@@ -127,20 +106,26 @@ fn judge_example<R: Files + AllocGlobal>(
     Ok(comparing::judge(&tape, given, &want))
 }
 
+// Judges an example by its name: its settings are a file of nothing but their lines.
+fn verdict_of<R: Files + AllocGlobal>(rt: &R, name: &str) -> io::Result<Verdict>
+    ensures { IfOk result FromOne }
+{
+    let settings = files::read_part(rt, name, ".set", MOST_SETTINGS)?;
+    let mut given = stored::given::usual();
+    match stored::given::read_given(&settings, &mut given) {
+        Some([]) => judge_example(rt, name, given),
+        _ => Ok(Verdict::Unread),
+    }
+}
+
 fn show_example<R: Files + AllocGlobal, W: Write>(
     rt: &R,
     out: &mut W,
     name: &str,
 ) -> io::Result<()> {
     write!(out, "example {name}")?;
-    let settings = files::read_part(rt, name, ".set", MOST_SETTINGS)?;
-    let mut given = stored::given::usual();
-    let start = stored::given::read_given(&settings, 0, &mut given);
-    if !start.lawful | (start.at < settings.len()) {
-        return show_verdict(out, Verdict::Unread);
-    }
-    let verdict = judge_example(rt, name, given)?;
-    show_verdict(out, verdict)
+    let verdict = verdict_of(rt, name)?;
+    writeln!(out, " {verdict}")
 }
 
 // The name of an example: no name where it is too long for one.
@@ -162,12 +147,9 @@ fn show_all<R: Files + Env + AllocGlobal, W: Write>(
     page: &[u8],
 ) -> io::Result<()> {
     show_cases(out, all)?;
-    show_file(rt, out, "threads.cases")?;
-    show_file(rt, out, "threads-refused.cases")?;
-    show_file(rt, out, "points.cases")?;
-    show_file(rt, out, "drilling.cases")?;
-    show_file(rt, out, "arcs.cases")?;
-    show_file(rt, out, "blocks.cases")?;
+    for name in FILES {
+        show_file(rt, out, name)?;
+    }
     show_long(out)?;
     show_card(out, page)?;
     show_examples(rt, out)

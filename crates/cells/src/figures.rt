@@ -6,8 +6,6 @@ ghost use Rattle.cells.specs.Numbers.{flag_of, flag_at, signed_at, byte_at, shor
 use division::Pieces;
 use whole::Side;
 
-const FALSE: u32 = 0;
-
 const TRUE: u32 = 1;
 
 const MINUS: u32 = 0;
@@ -17,32 +15,25 @@ const ZERO: u32 = 1;
 const PLUS: u32 = 2;
 
 // A signed number, in two's complement.
+#[tactic(auto, unfolding(octets::specs::Bytes::signed_of))]
 pub fn word_of(v: i32) -> u32
     ensures { signed_of result ≡ v }
 {
-    octets::u32_of_bytes(octets::bytes_of_i32(v))
+    v.cast_unsigned()
 }
 
-fn signed_of(u: u32) -> i32
-    ensures { result ≡ signed_of u }
-{
-    octets::i32_of_bytes(octets::bytes_of_u32(u))
-}
-
+#[tactic(auto, unfolding(octets::specs::Bytes::signed_of))]
 pub fn signed_at(w: &[u32], at: usize) -> i32
     requires { at < length w.now }
     ensures { result ≡ signed_at w.now at }
 {
-    signed_of(w[at])
+    w[at].cast_signed()
 }
 
 pub fn flag_word(flag: bool) -> u32
     ensures { flag_of result ≡ flag }
 {
-    if flag {
-        return TRUE;
-    }
-    FALSE
+    u32::from(flag)
 }
 
 pub fn flag_at(w: &[u32], at: usize) -> bool
@@ -55,7 +46,7 @@ pub fn flag_at(w: &[u32], at: usize) -> bool
 pub fn byte_word(b: u8) -> u32
     ensures { result % 2 ^ 8 ≡ b }
 {
-    b as u32
+    u32::from(b)
 }
 
 pub fn byte_at(w: &[u32], at: usize) -> u8
@@ -68,7 +59,7 @@ pub fn byte_at(w: &[u32], at: usize) -> u8
 pub fn short_word(v: u16) -> u32
     ensures { result % 2 ^ 16 ≡ v }
 {
-    v as u32
+    u32::from(v)
 }
 
 pub fn short_at(w: &[u32], at: usize) -> u16
@@ -91,17 +82,11 @@ pub fn high_word(v: u64) -> u32
     (v / 4_294_967_296) as u32
 }
 
-fn wide(u: u32) -> u64
-    ensures { (result ≡ u) × (result < 2 ^ 32) }
-{
-    u as u64
-}
-
 pub fn wide_at(w: &[u32], at: usize) -> u64
     requires { at + 2 ≤ length w.now }
     ensures { result ≡ wide_at w.now at }
 {
-    wide(w[at]) + 4_294_967_296 * wide(w[at + 1])
+    octets::joined(w[at], w[at + 1])
 }
 
 pub fn side_word(side: Side) -> u32
@@ -117,13 +102,11 @@ pub fn side_word(side: Side) -> u32
 pub fn side_of(u: u32) -> Side
     ensures { result ≡ side_of u }
 {
-    if u == MINUS {
-        return Side::Minus;
+    match u {
+        MINUS => Side::Minus,
+        ZERO => Side::Zero,
+        _ => Side::Plus,
     }
-    if u == ZERO {
-        return Side::Zero;
-    }
-    Side::Plus
 }
 
 // The pieces of a division, from a place on.

@@ -7,9 +7,7 @@ pub fn put_words(w: &mut [u32], at: usize, words: &[u32])
     requires { at + length words.now ≤ length w.old }
     ensures { w.new ≡ laid w.old at words.now }
 {
-    let mut i: usize = 0;
-    while i < words.len() {
+    for i in 0..words.len() {
         w[at + i] = words[i];
-        i += 1;
     }
 }

@@ -4,7 +4,7 @@
 
 pub mod asked;
 
-ghost use Rattle.std.specs.Prelude.{◌≡◌, ◌≤◌, length};
+ghost use Rattle.std.specs.Prelude.{◌≡◌};
 ghost use Rattle.stored.specs.Texts.{FromOne};
 ghost use Rattle.comparing.specs.Door.{settings_in, answer_told};
 
@@ -72,69 +72,30 @@ fn judge_answer(answer: Answer, list: &[u8], want: &[u8]) -> Verdict
     stored::compare::compare(&text[..n], want)
 }
 
-// Runs a tape through the door and judges what it answers and leaves.
-fn judge_run(
-    tape: &[u8],
-    table: &[i32],
-    settings: &[i32],
-    places: &mut [u64],
-    buf: &mut [u8],
-    want: &[u8],
-) -> Verdict
-    ensures { FromOne result }
-{
-    let packed = board::tm02_interpret(tape, table, settings, places, buf);
-    judge_answer(unpacked(packed), buf, want)
-}
-
-// Judges a tape by its listing, and then by its moves.
-fn judge_both(
-    tape: &[u8],
-    table: &[i32],
-    settings: &[i32],
-    places: &mut [u64],
-    buf: &mut [u8],
-    want: &[u8],
-) -> Verdict
-    ensures { FromOne result }
-{
-    let listed = judge_run(tape, table, settings, places, buf, want);
-    let Verdict::Agrees = listed else {
-        return listed;
-    };
-    asked::judge_moves(tape, table, settings, places)
-}
-
-// Lends the tape the table, the table of places and the buffer that its case asks for, and no number and no byte more.
+// Judges a tape by its listing, and then by its moves. It is lent the table, the table of places and the buffer that its case asks for, and no number and no byte more.
 pub fn judge(tape: &[u8], given: [i32; ALL], want: &[u8]) -> Verdict
     ensures { FromOne result }
 {
     let mut space = io::large_buffer();
-    let mut places = [0u64; PLACES];
-    let numbers = stored::given::numbers_of(&given);
-    let bytes = stored::given::bytes_of(&given);
-    let held = stored::given::held_of(&given);
+    let mut entries = [0u64; PLACES];
     let settings = settings_of(&given);
-    judge_both(
-        tape,
-        &given[..numbers],
-        &settings,
-        &mut places[..held],
-        &mut space[..bytes],
-        want,
-    )
+    let table = &given[..stored::given::numbers_of(&given)];
+    let places = &mut entries[..stored::given::held_of(&given)];
+    let buf = &mut space[..stored::given::bytes_of(&given)];
+    let packed = board::tm02_interpret(tape, table, &settings, places, buf);
+    match judge_answer(unpacked(packed), buf, want) {
+        Verdict::Agrees => asked::judge_moves(tape, table, &settings, places),
+        wrong => wrong,
+    }
 }
 
-// Judges a case whose settings and tape stand in one text, from `from` on.
-pub fn judge_case(case: &[u8], from: usize, want: &[u8]) -> Verdict
-    requires { from ≤ length case.now }
+// Judges a case whose settings and tape stand in one text.
+pub fn judge_case(case: &[u8], want: &[u8]) -> Verdict
     ensures { FromOne result }
 {
     let mut given = stored::given::usual();
-    let start = stored::given::read_given(case, from, &mut given);
-    if !start.lawful {
-        return Verdict::Unread;
+    match stored::given::read_given(case, &mut given) {
+        Some(tape) => judge(tape, given, want),
+        None => Verdict::Unread,
     }
-    let at = start.at;
-    judge(&case[at..], given, want)
 }

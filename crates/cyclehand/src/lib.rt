@@ -1,4 +1,4 @@
-// The next record of the cycle that is due, whichever of the four it is. The paths of grooving and drilling stand here, those of turning and threading in `passhand`, with what an ask comes to.
+// The next record of the cycle that is due, whichever of the four it is. The path of each stands in `passhand`, with what an ask comes to.
 // All else that can be due is given by `inhand`: the record of a word, that of a deed that is no cycle, and M00 or M30 behind a cycle.
 #![tactic(auto)]
 
@@ -12,13 +12,12 @@ pub use handing;
 pub use handwords;
 pub use handwords::resumable;
 use moves::Origin;
-pub use passhand::Gave;
-
-pub mod drilled;
-pub mod grooved;
+pub use passhand::{Gave, drilled, grooved};
+use passhand::{threaded, turned};
 
 // Lays the next record of the cycle that is due, with the block that it came from, and puts the cycle into the words as it stands behind that record; where no record is given nothing is done. `stops`
 // says whether M00 or M30 stands behind the cycle.
+#[tactic(auto, unfolding(handwords::specs::Due::slot_of))]
 pub fn give(due: &mut [u32], record: &mut [u8], origin: Origin, stops: bool) -> Gave
     requires { (length due.old ≡ due_words) × (record_size ≤ length «record».old) }
     ensures { Gives (has_next_in due.old) (slot_of due.old) origin stops due.old «record».old result due.new «record».new }
@@ -26,18 +25,11 @@ pub fn give(due: &mut [u32], record: &mut [u8], origin: Origin, stops: bool) -> 
     if !handwords::is_deed(due) {
         return Gave::Other;
     }
-    let tag = due[1];
-    if tag == cyclewords::turned::TAG {
-        return passhand::turned::give(due, record, origin, stops);
+    match due[1] {
+        cyclewords::turned::TAG => turned::give(due, record, origin, stops),
+        cyclewords::threaded::TAG => threaded::give(due, record, origin, stops),
+        cyclewords::grooved::TAG => grooved::give(due, record, origin, stops),
+        cyclewords::drilled::TAG => drilled::give(due, record, origin, stops),
+        _ => Gave::Other,
     }
-    if tag == cyclewords::threaded::TAG {
-        return passhand::threaded::give(due, record, origin, stops);
-    }
-    if tag == cyclewords::grooved::TAG {
-        return grooved::give(due, record, origin, stops);
-    }
-    if tag == cyclewords::drilled::TAG {
-        return drilled::give(due, record, origin, stops);
-    }
-    Gave::Other
 }

@@ -5,9 +5,8 @@ use Rattle.cuts.specs.declared.Cuts.{Cuts}
 use Rattle.cuts.specs.declared.Cuts.TheVariants.{Even, ByDepth, ByNumber}
 use Rattle.threading.specs.declared.Pass.{Pass}
 use Rattle.threads.specs.declared.Cursor.{Cursor}
-use Rattle.threads.specs.declared.Stage.{Stage}
-use Rattle.threads.specs.declared.Stage.TheVariants.{In, Cut, Out, Back}
 use Rattle.cells.specs.Numbers.{at, flag_at, signed_at, wide_at, side_of, pieces_at}
+use Rattle.cyclewords.specs.Passing.{stage_of}
 
 abbrev pub threading_tag : ℕ
 threading_tag = 9
@@ -21,9 +20,6 @@ falling_at w k = record { d3 = at w k; d6 = at w (k + 1); square = wide_at w (k 
 
 abbrev pub cuts_at : List ℕ → ℕ → Cuts
 cuts_at w k = cond (eqb (at w k) 0) (Even (pieces_at w (k + 1))) (cond (eqb (at w k) 1) (ByDepth (falling_at w (k + 1))) (ByNumber (falling_at w (k + 1))))
-
-abbrev pub stage_of : ℕ → Stage
-stage_of u = cond (eqb u 0) In (cond (eqb u 1) Cut (cond (eqb u 2) Out Back))
 
 abbrev pub pass_at : List ℕ → ℕ → Pass
 pass_at w k = record { facing = flag_at w k; pitch = at w (k + 1); from = signed_at w (k + 2); home = signed_at w (k + 3); end = signed_at w (k + 4) }

@@ -1,16 +1,12 @@
 -- The turning cycle that words stand for.
-use Rattle.std.specs.Prelude.{cond, List, ℕ, ◌+◌, eqb}
+use Rattle.std.specs.Prelude.{List, ℕ, ◌+◌}
 use Rattle.turning.specs.declared.Pass.{Pass}
 use Rattle.passes.specs.declared.Cursor.{Cursor}
-use Rattle.passes.specs.declared.Stage.{Stage}
-use Rattle.passes.specs.declared.Stage.TheVariants.{In, Cut, Out, Back}
 use Rattle.cells.specs.Numbers.{at, flag_at, signed_at, side_of, pieces_at}
+use Rattle.cyclewords.specs.Passing.{stage_of}
 
 abbrev pub turning_tag : ℕ
 turning_tag = 8
-
-abbrev pub stage_of : ℕ → Stage
-stage_of u = cond (eqb u 0) In (cond (eqb u 1) Cut (cond (eqb u 2) Out Back))
 
 abbrev pub pass_at : List ℕ → ℕ → Pass
 pass_at w k = record {

@@ -38,22 +38,14 @@ fn stage_word(stage: Stage) -> u32
 fn stage_of(u: u32) -> Stage
     ensures { result ≡ stage_of u }
 {
-    if u == BITE {
-        return Stage::Bite;
+    match u {
+        BITE => Stage::Bite,
+        HOME => Stage::Home,
+        BACK => Stage::Back,
+        DWELL => Stage::Dwell,
+        OUT => Stage::Out,
+        _ => Stage::Over,
     }
-    if u == HOME {
-        return Stage::Home;
-    }
-    if u == BACK {
-        return Stage::Back;
-    }
-    if u == DWELL {
-        return Stage::Dwell;
-    }
-    if u == OUT {
-        return Stage::Out;
-    }
-    Stage::Over
 }
 
 fn bore_words(b: Bore) -> [u32; 11]

@@ -38,22 +38,14 @@ fn stage_word(stage: Stage) -> u32
 fn stage_of(u: u32) -> Stage
     ensures { result ≡ stage_of u }
 {
-    if u == CUT {
-        return Stage::Cut;
+    match u {
+        CUT => Stage::Cut,
+        BACK => Stage::Back,
+        DWELL => Stage::Dwell,
+        OUT => Stage::Out,
+        ACROSS => Stage::Across,
+        _ => Stage::Over,
     }
-    if u == BACK {
-        return Stage::Back;
-    }
-    if u == DWELL {
-        return Stage::Dwell;
-    }
-    if u == OUT {
-        return Stage::Out;
-    }
-    if u == ACROSS {
-        return Stage::Across;
-    }
-    Stage::Over
 }
 
 fn groove_words(g: Groove) -> [u32; 12]

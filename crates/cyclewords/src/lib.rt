@@ -5,6 +5,7 @@
 pub mod cutting;
 pub mod drilled;
 pub mod grooved;
+mod passing;
 pub mod threaded;
 pub mod turned;
 

@@ -2,47 +2,13 @@
 ghost use Rattle.std.specs.Prelude.{◌≡◌, length};
 ghost use Rattle.cells.specs.Numbers.{at, signed_at, side_of};
 ghost use Rattle.cyclewords.specs.Sizes.{due_words};
-ghost use Rattle.cyclewords.specs.Threaded.{threading_tag, stage_of, pass_at, threading_of};
+ghost use Rattle.cyclewords.specs.Threaded.{threading_tag, pass_at, threading_of};
 
-use crate::DUE_WORDS;
+use crate::{DUE_WORDS, passing};
 use threading::Pass;
-use threads::{Cursor, Stage};
+use threads::Cursor;
 
 pub const TAG: u32 = 9;
-
-const IN: u32 = 0;
-
-const CUT: u32 = 1;
-
-const OUT: u32 = 2;
-
-const BACK: u32 = 3;
-
-fn stage_word(stage: Stage) -> u32
-    ensures { stage_of result ≡ stage }
-{
-    match stage {
-        Stage::In => IN,
-        Stage::Cut => CUT,
-        Stage::Out => OUT,
-        Stage::Back => BACK,
-    }
-}
-
-fn stage_of(u: u32) -> Stage
-    ensures { result ≡ stage_of u }
-{
-    if u == IN {
-        return Stage::In;
-    }
-    if u == CUT {
-        return Stage::Cut;
-    }
-    if u == OUT {
-        return Stage::Out;
-    }
-    Stage::Back
-}
 
 // The pass, the side, the line and the depth.
 fn front_words(c: Cursor) -> [u32; 8]
@@ -66,7 +32,7 @@ pub fn words_of(hand: u32, c: Cursor) -> [u32; DUE_WORDS]
     let present = c.stage;
     let front = front_words(c);
     let cuts = crate::cutting::words_of(left);
-    let stage = stage_word(present);
+    let stage = passing::stage_word(present);
     [
         hand, TAG, front[0], front[1], front[2], front[3], front[4], front[5], front[6], front[7],
         cuts[0], cuts[1], cuts[2], cuts[3], cuts[4], cuts[5], cuts[6], cuts[7], c.empty, stage, 0,
@@ -94,7 +60,7 @@ pub fn cursor_of(w: &[u32]) -> Cursor
     let pass = pass_of(w);
     let side = cells::figures::side_of(w[7]);
     let cuts = crate::cutting::cuts_at(w, 10);
-    let stage = stage_of(w[19]);
+    let stage = passing::stage_of(w[19]);
     Cursor {
         pass,
         side,

@@ -2,47 +2,13 @@
 ghost use Rattle.std.specs.Prelude.{◌≡◌, length};
 ghost use Rattle.cells.specs.Numbers.{at, signed_at, side_of};
 ghost use Rattle.cyclewords.specs.Sizes.{due_words};
-ghost use Rattle.cyclewords.specs.Turned.{turning_tag, stage_of, pass_at, turning_of};
+ghost use Rattle.cyclewords.specs.Turned.{turning_tag, pass_at, turning_of};
 
-use crate::DUE_WORDS;
-use passes::{Cursor, Stage};
+use crate::{DUE_WORDS, passing};
+use passes::Cursor;
 use turning::Pass;
 
 pub const TAG: u32 = 8;
-
-const IN: u32 = 0;
-
-const CUT: u32 = 1;
-
-const OUT: u32 = 2;
-
-const BACK: u32 = 3;
-
-fn stage_word(stage: Stage) -> u32
-    ensures { stage_of result ≡ stage }
-{
-    match stage {
-        Stage::In => IN,
-        Stage::Cut => CUT,
-        Stage::Out => OUT,
-        Stage::Back => BACK,
-    }
-}
-
-fn stage_of(u: u32) -> Stage
-    ensures { result ≡ stage_of u }
-{
-    if u == IN {
-        return Stage::In;
-    }
-    if u == CUT {
-        return Stage::Cut;
-    }
-    if u == OUT {
-        return Stage::Out;
-    }
-    Stage::Back
-}
 
 // The pass, the side and the line.
 fn front_words(c: Cursor) -> [u32; 8]
@@ -66,7 +32,7 @@ pub fn words_of(hand: u32, c: Cursor) -> [u32; DUE_WORDS]
     let depths = c.depths;
     let present = c.stage;
     let front = front_words(c);
-    let stage = stage_word(present);
+    let stage = passing::stage_word(present);
     [
         hand,
         TAG,
@@ -119,7 +85,7 @@ pub fn cursor_of(w: &[u32]) -> Cursor
     let pass = pass_of(w);
     let depths = cells::figures::pieces_at(w, 10);
     let side = cells::figures::side_of(w[8]);
-    let stage = stage_of(w[13]);
+    let stage = passing::stage_of(w[13]);
     Cursor {
         pass,
         side,

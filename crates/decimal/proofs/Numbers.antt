@@ -1,15 +1,15 @@
 -- Numbers that are written digit by digit.
 -- Assumes nothing.
-use mathlib.Core.Path.{◌≡◌, sym, ap, ◌∙◌}
+use mathlib.Core.Path.{◌≡◌, refl, sym, ap, ◌∙◌}
 use mathlib.Core.Bool.{true, false}
 use mathlib.Core.List.{List, [], ◌∷◌, ◌++◌, append_assoc, append-nil}
-use Prim.Native.Nat.{ℕ, suc, ◌+◌, ◌-◌, ◌/◌, ◌%◌, ◌<◌, ◌≤◌}
+use Prim.Native.Nat.{ℕ, zero, suc, ◌+◌, ◌-◌, ◌/◌, ◌%◌, ◌<◌, ◌≤◌}
 use native.Mathlib.Omega.{arith}
 use lib.IntN.{ℤ, pos, nat_abs}
 use lib.ListN.{length, set, length-append}
 use lib.Signed.{lt_z}
 use Rattle.octets.specs.Bytes.{laid}
-use Rattle.octets.proofs.Laying.{laid_nil, length_laid}
+use Rattle.octets.proofs.Laying.{laid_nil}
 use Rattle.letters.specs.Letters.{minus_sign, digit_zero}
 use Rattle.decimal.specs.Decimal.{digits, decimal, signed}
 use Rattle.decimal.specs.Wrote.{Wrote}
@@ -32,11 +32,24 @@ module _ (b : List ℕ) (at n : ℕ) where
     last_place : 0 < rest → to ≡ at + length (digits (rest / 10)) + 1
     last_place some = omega (arith, g.place, ap length (digits_more rest some), length-append (digits (rest / 10)) ((digit_zero + rest % 10) ∷ []))
 
+    -- where a place is left, there is a digit left
+    pub back_some : at < to → 0 < rest
+    back_some h = by rest g.place
+      where
+        by : (r : ℕ) → to ≡ at + length (digits r) → 0 < r
+        by zero e = absurd (omega (arith, h, e, ap length digits_none))
+        by (suc r) e = omega arith
+
+    -- and none where none is left
+    none_left : to ≤ at → digits rest ≡ []
+    none_left h = by (digits rest) g.place
+      where
+        by : (w : List ℕ) → to ≡ at + length w → w ≡ []
+        by [] e = refl
+        by (d ∷ w) e = absurd (omega (arith, h, e))
+
     pub back_room : at + length (digits n) ≤ length b → 0 < rest → (0 < to) × (to ≤ length b)
     back_room fits some = (omega (arith, last_place some), omega (arith, fits, g.place, ap length g.parts, length-append (digits rest) g.done))
-
-    pub back_kept : at + length (digits n) ≤ length b → length c ≡ length b
-    back_kept fits = ap length g.bytes ∙ length_laid b to g.done (omega (arith, fits, g.place, ap length g.parts, length-append (digits rest) g.done))
 
     pub back_next : at + length (digits n) ≤ length b → 0 < rest → {m : ℕ} → m ≡ to - 1 → Back b at n (set c m (digit_zero + rest % 10)) m (rest / 10)
     back_next fits some {m} e =
@@ -49,9 +62,9 @@ module _ (b : List ℕ) (at n : ℕ) where
           bytes = ap (λ (w : List ℕ). set w m (digit_zero + rest % 10)) (g.bytes ∙ ap (λ (k : ℕ). laid b k g.done) t) ∙ before_laid b m (digit_zero + rest % 10) g.done (omega (arith, t, room.1));
         }
 
-    pub back_ended : {next : ℕ} → next ≡ at + length (digits n) → rest ≡ 0 → Wrote b at (digits n) next c
+    pub back_ended : {next : ℕ} → next ≡ at + length (digits n) → to ≤ at → Wrote b at (digits n) next c
     back_ended e none =
-        let left : digits rest ≡ [] = ap digits none ∙ digits_none in
+        let left = none_left none in
         let whole : digits n ≡ g.done = g.parts ∙ ap (λ (w : List ℕ). w ++ g.done) left in
         let here : to ≡ at = omega (arith, g.place, ap length left) in record {
           place = e;

@@ -6,8 +6,8 @@ use Prim.Native.Nat.{ℕ, zero, suc, ◌+◌, ◌≤◌, ◌<◌}
 use native.Mathlib.Nat.{add-zero}
 use native.Mathlib.Numerals.{add-one}
 use native.Mathlib.Omega.{arith}
-use lib.ListN.{length, get_or, set, drop, take, length-append, length-drop, drop_of_length-le}
-use lib.Seq.{set_split, drop-cons}
+use lib.ListN.{length, set, drop, take, length-append}
+use lib.Seq.{set_split}
 use Rattle.octets.specs.Bytes.{laid}
 use Rattle.octets.proofs.Laying.{laid_nil, laid_on, length_laid}
 use Rattle.decimal.specs.Wrote.{Wrote}
@@ -85,19 +85,6 @@ module _ {b : List ℕ} {at : ℕ} {all c : List ℕ} {m : ℕ} where
 
   pub ended : Going b at all c m [] → Wrote b at all m c
   ended g = last g (nothing_wrote c m)
-
-  -- ---- the bytes of a text, one after the other
-  pub text_room : (text : List ℕ) (i : ℕ) → Going b at all c m (drop i text) → at + length all ≤ length b → i < length text → m < length c
-  text_room text i g h l = omega (arith, room g h, length-drop i text)
-
-  pub text_next : (text : List ℕ) (i : ℕ) → Going b at all c m (drop i text) → i < length text → m < length c
-      → Going b at all (set c m (get_or text i 0)) (m + 1) (drop (i + 1) text)
-  text_next text i g l h =
-      let e : drop i text ≡ (get_or text i 0 ∷ []) ++ drop (i + 1) text = drop-cons text i 0 l ∙ ap (λ (n : ℕ). get_or text i 0 ∷ drop n text) (sym (add-one i)) in
-      next (get_or text i 0 ∷ []) (rw e at g) (omega arith) (byte_wrote c m (get_or text i 0) h)
-
-  pub text_end : (text : List ℕ) (i : ℕ) → Going b at all c m (drop i text) → length text ≤ i → Wrote b at all m c
-  text_end text i g l = ended (rw (drop_of_length-le text l) at g)
 
 -- ---- a text in two parts, where both have room, and where all has
 pub behind : {b : List ℕ} {at : ℕ} (v w : List ℕ) {m n : ℕ} {c e : List ℕ} → Wrote b at v m c → m ≤ length b → Wrote c m w n e → Wrote b at (v ++ w) n e

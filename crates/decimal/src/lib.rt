@@ -18,37 +18,17 @@ pub fn put_text(out: &mut [u8], at: usize, text: &[u8]) -> usize
     requires { at + length text.now ≤ length out.old }
     ensures { Wrote out.old at text.now result out.new }
 {
-    let mut to = at;
-    let mut i = 0;
-    while i < text.len() {
-        out[to] = text[i];
-        to += 1;
-        i += 1;
-    }
-    to
+    let next = at + text.len();
+    out[at..next].copy_from_slice(text);
+    next
 }
-
-// No number of 64 bits has more digits.
-const MOST_DIGITS: usize = 20;
 
 // How many digits a number above 0 has.
 fn digit_count(n: usize) -> usize
     requires { 0 < n }
     ensures { result ≡ length (digits n) }
 {
-    let mut count: usize = 1;
-    // the least number that has more than `count` digits
-    let mut longer: usize = 10;
-    loop {
-        if n < longer {
-            return count;
-        }
-        count += 1;
-        if count == MOST_DIGITS {
-            return count;
-        }
-        longer = longer * 10;
-    }
+    n.ilog10() as usize + 1
 }
 
 // The digits of a number above 0, the last one first.
@@ -57,13 +37,10 @@ fn put_digits(out: &mut [u8], at: usize, n: usize) -> usize
     ensures { Wrote out.old at (digits n) result out.new }
 {
     let next = at + digit_count(n);
-    let mut to = next;
     let mut rest = n;
-    while 0 < rest {
-        to -= 1;
-        let last = (rest % 10) as u8;
-        out[to] = b'0' + last;
-        rest = rest / 10;
+    for place in (at..next).rev() {
+        out[place] = b'0' + (rest % 10) as u8;
+        rest /= 10;
     }
     next
 }

@@ -1,6 +1,6 @@
 -- The pieces handed out one after the other, the remainder carried along, are the pieces of the division.
 -- Assumes nothing.
-use mathlib.Core.Path.{◌≡◌, refl, ap, ◌∙◌}
+use mathlib.Core.Path.{◌≡◌, refl, sym, ap, ◌∙◌}
 use mathlib.Core.List.{List, [], ◌∷◌, ◌++◌}
 use Prim.Native.Nat.{ℕ, zero, suc, ◌+◌, ◌-◌, ◌/◌, ◌%◌, ◌≤◌, ◌<◌}
 use native.Mathlib.Nat.{mod-lt}
@@ -62,9 +62,12 @@ one_more q (suc r) h = refl
 
 module _ (p : Pieces) (some : 0 < p.left) where
   -- no remainder is left: the shorter piece
-  pub shorter_first : p.remainder ≡ 0 → row_of p ≡ p.piece ∷ row_of (record { piece = p.piece; remainder = 0; left = p.left - 1 })
+  pub shorter_first : p.remainder ≡ 0 → row_of p ≡ p.piece ∷ row_of (record { piece = p.piece; remainder = p.remainder; left = p.left - 1 })
   unfolding row_of next_piece
-  shorter_first z = carried_first p.piece p.remainder p.left some ∙ (λ i. next_piece p.piece (z i) ∷ carried p.piece (z i - 1) (p.left - 1))
+  shorter_first z =
+      carried_first p.piece p.remainder p.left some
+      ∙ (λ i. next_piece p.piece (z i) ∷ carried p.piece (z i - 1) (p.left - 1))
+      ∙ ap (λ (r : ℕ). p.piece ∷ carried p.piece r (p.left - 1)) (sym z)
 
   -- some of it is left: the longer one, which takes one of it
   pub longer_first : 0 < p.remainder → row_of p ≡ (p.piece + 1) ∷ row_of (record { piece = p.piece; remainder = p.remainder - 1; left = p.left - 1 })

@@ -3,9 +3,11 @@
 use mathlib.Core.Path.{◌≡◌, ap, ◌∙◌, subst}
 use mathlib.Core.List.{List, [], ◌∷◌, ◌++◌}
 use Prim.Native.Nat.{ℕ, zero, suc, ◌+◌, ◌-◌, ◌*◌, ◌/◌, ◌%◌, ◌≤◌, ◌<◌, max, zero-le}
-use native.Mathlib.Nat.{mul-le-mul_left, div-le_of_le-mul, div-lt_iff_lt-mul, lt-mul-div-succ, div-add-mod, mod-lt, add-div_right, div-le_self}
+use native.Mathlib.Nat.{mul-le-mul_left, div-le_of_le-mul, div-lt_iff_lt-mul, le-div_iff_mul-le, lt-mul-div-succ, div-add-mod, mod-lt, add-div_right, div-le_self}
 use native.Mathlib.Decide.{dec_le}
 use native.Mathlib.Omega.{arith}
+use Rattle.std.specs.Int.{div_ceil}
+use Rattle.std.proofs.lemmas.Grind.{div_ceil_times}
 use lib.ListN.{length, replicate, length-append, length-replicate}
 use Rattle.division.specs.Division.{count, pieces, divided, sum, greatest, Evenly}
 
@@ -68,6 +70,16 @@ pieces_sum e n p =
 pub count_is : (e d : ℕ) → 0 < e → 0 < d → count e d ≡ (e - 1) / d + 1
 unfolding count
 count_is e d pe pd = let k : e + (d - 1) ≡ (e - 1) + d = omega arith in ap (λ (n : ℕ). n / d) k ∙ add-div_right (e - 1) pd
+
+-- the library's quotient rounded up is the count
+pub ceil_is : (e d : ℕ) → 0 < d → div_ceil e d ≡ count e d
+unfolding count
+ceil_is e d p =
+    let k : ℕ = div_ceil e d in
+    let t = div_ceil_times e d p in
+    let above : (e + (d - 1)) / d < k + 1 = (div-lt_iff_lt-mul {k = d} {x = e + (d - 1)} {y = k + 1} p).1 (omega (arith, t.0, p)) in
+    let below : k ≤ (e + (d - 1)) / d = (le-div_iff_mul-le {k = d} {x = k} {y = e + (d - 1)} p).1 (omega (arith, t.1, p)) in
+    omega (arith, above, below)
 
 pub count_above : (e d : ℕ) → 0 < e → 0 < d → 0 < count e d
 count_above e d pe pd = omega (arith, count_is e d pe pd)

@@ -22,29 +22,29 @@ pub struct HandedOut {
 }
 
 // How many pieces of at most `greatest` a length takes. A division of nothing, or by 0, cannot be asked for.
+#[tactic(auto, using(crate::proofs::Divisions::ceil_is))]
 pub fn piece_count(length: u32, greatest: u32) -> u32
     requires { (0 < length) × (0 < greatest) }
     ensures { result ≡ count length greatest }
 {
-    // rounded up without a sum that could wrap
-    (length - 1) / greatest + 1
+    length.div_ceil(greatest)
 }
 
 // A length in n pieces: the one quotient and the one remainder of a division.
+#[tactic(auto, using(crate::proofs::Carrying::divided_row))]
 pub fn divide(length: u32, n: u32) -> Pieces
     requires { 0 < n }
     ensures { row_of result ≡ pieces length n }
 {
-    let piece = length / n;
-    let remainder = length % n;
     Pieces {
-        piece,
-        remainder,
+        piece: length / n,
+        remainder: length % n,
         left: n,
     }
 }
 
 // Nothing to divide has no pieces.
+#[tactic(auto, unfolding(crate::specs::Carried::row_of, crate::specs::Carried::carried))]
 pub fn divide_nothing() -> Pieces
     ensures { row_of result ≡ [] }
 {
@@ -56,31 +56,27 @@ pub fn divide_nothing() -> Pieces
 }
 
 // The next piece: a longer one while some of the remainder is left, then the shorter.
+#[tactic(auto, using(crate::proofs::Carrying::shorter_first, crate::proofs::Carrying::longer_first, crate::proofs::Carrying::longer_fits))]
 pub fn hand_out(p: Pieces) -> HandedOut
     requires { (0 < p.left) × (sum (row_of p) < 2 ^ 32) }
     ensures { row_of p ≡ result.piece ∷ row_of result.rest }
 {
     let left = p.left - 1;
     if p.remainder == 0 {
-        let rest = Pieces {
-            piece: p.piece,
-            remainder: 0,
-            left,
-        };
+        let rest = Pieces { left, ..p };
         return HandedOut {
             piece: p.piece,
             rest,
         };
     }
-    let longer = p.piece + 1;
     let remainder = p.remainder - 1;
     let rest = Pieces {
-        piece: p.piece,
         remainder,
         left,
+        ..p
     };
     HandedOut {
-        piece: longer,
+        piece: p.piece + 1,
         rest,
     }
 }

@@ -16,18 +16,13 @@ fn four_at(part: &[u8], at: usize) -> [u8; 4]
     [part[at], part[at + 1], part[at + 2], part[at + 3]]
 }
 
-fn wide(b: u8) -> usize
-    ensures { (result ≡ b) × (result < 256) }
-{
-    b as usize
-}
-
 // The 16 bits from a place on.
+#[tactic(auto, using(crate::proofs::Taking::two_taken))]
 pub fn two_at(part: &[u8], at: usize) -> usize
     requires { at + 2 ≤ length part.now }
     ensures { (result ≡ number_at part.now at 2) × (result < 65_536) }
 {
-    wide(part[at]) + 256 * wide(part[at + 1])
+    usize::from(octets::u16_of_bytes([part[at], part[at + 1]]))
 }
 
 // What is done by the record at the front of a part that begins at its first byte.

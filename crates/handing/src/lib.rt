@@ -4,14 +4,8 @@
 ghost use Rattle.std.specs.Prelude.{◌≡◌, false};
 ghost use Rattle.stages.specs.Cursor.{stage_over, cycle_over, over, Sound, Makes};
 
-use moves::Record;
+use moves::Handed;
 use stages::{Due, Plan, Stage};
-
-#[derive(Clone, Copy)]
-pub struct Handed {
-    pub record: Record,
-    pub rest: Due,
-}
 
 // Whether none of the records that are no cycle's is due.
 fn is_stage_over(stage: Stage) -> bool
@@ -56,7 +50,7 @@ pub fn is_over(p: Plan, due: Due) -> bool
 }
 
 // The next record, and what is due behind it: of a cycle that is over, M00 or M30.
-pub fn next(p: Plan, due: Due) -> Handed
+pub fn next(p: Plan, due: Due) -> Handed<Due>
     requires { Sound p due × (over p due ≡ false) }
     ensures { Makes p due result.record result.rest }
 {
@@ -70,7 +64,7 @@ pub fn next(p: Plan, due: Due) -> Handed
 }
 
 // The same of a single record that is due, or of a cycle that has one left.
-fn next_on(p: Plan, due: Due) -> Handed
+fn next_on(p: Plan, due: Due) -> Handed<Due>
     requires { Sound p due × (over p due ≡ false) × (cycle_over due ≡ false) }
     ensures { Makes p due result.record result.rest }
 {

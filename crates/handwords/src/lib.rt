@@ -63,67 +63,43 @@ fn stage_word(stage: Stage) -> u32
 fn stage_of(u: u32) -> Stage
     ensures { result ≡ stage_of u }
 {
-    if u == SPEED {
-        return Stage::Speed;
+    match u {
+        SPEED => Stage::Speed,
+        TOOL => Stage::Tool,
+        SPINDLE => Stage::Spindle,
+        COOLANT => Stage::Coolant,
+        DEED => Stage::Deed,
+        CENTRE => Stage::Centre,
+        STOP => Stage::Stop,
+        _ => Stage::Over,
     }
-    if u == TOOL {
-        return Stage::Tool;
-    }
-    if u == SPINDLE {
-        return Stage::Spindle;
-    }
-    if u == COOLANT {
-        return Stage::Coolant;
-    }
-    if u == DEED {
-        return Stage::Deed;
-    }
-    if u == CENTRE {
-        return Stage::Centre;
-    }
-    if u == STOP {
-        return Stage::Stop;
-    }
-    Stage::Over
 }
 
 // What is kept beside what is in hand.
+#[tactic(auto, unfolding(crate::specs::Due::slot_of))]
 pub fn slot_of(w: &[u32]) -> Due
     requires { length w.now ≡ due_words }
     ensures { result ≡ slot_of w.now }
 {
-    let tag = w[1];
-    if tag == cyclewords::turned::TAG {
-        return Due::Turning(cyclewords::turned::cursor_of(w));
+    match w[1] {
+        cyclewords::turned::TAG => Due::Turning(cyclewords::turned::cursor_of(w)),
+        cyclewords::threaded::TAG => Due::Threading(cyclewords::threaded::cursor_of(w)),
+        cyclewords::grooved::TAG => Due::Grooving(cyclewords::grooved::cursor_of(w)),
+        cyclewords::drilled::TAG => Due::Drilling(cyclewords::drilled::cursor_of(w)),
+        tag => Due::Single(stage_of(tag)),
     }
-    if tag == cyclewords::threaded::TAG {
-        return Due::Threading(cyclewords::threaded::cursor_of(w));
-    }
-    if tag == cyclewords::grooved::TAG {
-        return Due::Grooving(cyclewords::grooved::cursor_of(w));
-    }
-    if tag == cyclewords::drilled::TAG {
-        return Due::Drilling(cyclewords::drilled::cursor_of(w));
-    }
-    Due::Single(stage_of(tag))
 }
 
 fn due_from(hand: u32, slot: Due) -> Due
     ensures { result ≡ due_from hand slot }
 {
-    if hand == LEADS_SPEED {
-        return Due::Single(Stage::Speed);
+    match hand {
+        LEADS_SPEED => Due::Single(Stage::Speed),
+        LEADS_TOOL => Due::Single(Stage::Tool),
+        LEADS_SPINDLE => Due::Single(Stage::Spindle),
+        LEADS_COOLANT => Due::Single(Stage::Coolant),
+        _ => slot,
     }
-    if hand == LEADS_TOOL {
-        return Due::Single(Stage::Tool);
-    }
-    if hand == LEADS_SPINDLE {
-        return Due::Single(Stage::Spindle);
-    }
-    if hand == LEADS_COOLANT {
-        return Due::Single(Stage::Coolant);
-    }
-    slot
 }
 
 // What is due, where anything is in hand.

@@ -1,7 +1,7 @@
 -- A LIST JUDGED. 02, request 6: "It accepts exactly lists in the written form, with exact length, a count within the record limit, .. zero spare bytes". Request 7: "the reader takes both, version 1
 -- to 4,000 records and without a block". Fields are taken from their places by moves/specs/Reading.antt; which records are right is said in lawful/specs/Right.antt, and that exactly the writer's
 -- lists are accepted is a law (readback/proofs/Laws.antt).
-use Rattle.std.specs.Prelude.{Bool, true, cond, not, ◌&&◌, ◌||◌, List, [], ◌∷◌, ℕ, zero, suc, ◌+◌, ltb, eqb, length, get_or, drop}
+use Rattle.std.specs.Prelude.{Bool, true, cond, not, ◌&&◌, ◌||◌, List, [], ◌∷◌, ℕ, zero, suc, ◌+◌, ltb, eqb, length, get_or, drop, Result, Ok, Err}
 use Rattle.moves.specs.Form.{header_size, version, mark, mark_at, header_zero_at, zeros_at}
 use Rattle.moves.specs.declared.Record.{Record}
 use Rattle.moves.specs.Reading.{record_in, version_in, count_in}
@@ -9,9 +9,8 @@ use Rattle.lawful.specs.Right.{right_row}
 use Rattle.lawful.specs.Versions.{first_version, size_in, limit_in, start_in}
 use Rattle.lawful.specs.declared.Version.{Version}
 use Rattle.lawful.specs.declared.Version.TheVariants.{One, Two}
-use Rattle.judging.specs.Refusals.{bad_mark, bad_version, bad_length, bad_record}
-use Rattle.judging.specs.declared.Judged.{Judged}
-use Rattle.judging.specs.declared.Judged.TheVariants as judging
+use Rattle.judging.specs.declared.Refusal.{Refusal}
+use Rattle.judging.specs.declared.Refusal.TheVariants.{BadMark, BadVersion, BadLength, BadRecord}
 
 -- ---- the header: "`TMV`, 16-bit version 1, 16-bit count, one zero"
 -- whether byte i of the mark is another
@@ -46,15 +45,15 @@ unfoldable pub records_wrong : Version → List ℕ → Bool
 records_wrong v b = not (spares_zero (size_in v) (count_in b) (drop header_size b) && right_row (records_every (size_in v) (count_in b) (drop header_size b)))
 
 -- ---- THE LIST JUDGED: its version and how many records it has, or the first refusal
-unfoldable pub judged_as : Version → List ℕ → Judged
+unfoldable pub judged_as : Version → List ℕ → Result (Version × ℕ) Refusal
 judged_as v b =
-    cond (length_wrong v b) (judging.Refused bad_length) (cond (records_wrong v b) (judging.Refused bad_record) (judging.Good v (count_in b)))
+    cond (length_wrong v b) (Err BadLength) (cond (records_wrong v b) (Err BadRecord) (Ok (v, count_in b)))
 
-unfoldable pub judged : List ℕ → Judged
+unfoldable pub judged : List ℕ → Result (Version × ℕ) Refusal
 judged b =
-    cond (mark_wrong b) (judging.Refused bad_mark)
+    cond (mark_wrong b) (Err BadMark)
     (cond (eqb (version_in b) first_version) (judged_as One b)
-    (cond (eqb (version_in b) version) (judged_as Two b) (judging.Refused bad_version)))
+    (cond (eqb (version_in b) version) (judged_as Two b) (Err BadVersion)))
 
 -- the version that a header names: 1, or else 2
 abbrev pub version_named : List ℕ → Version

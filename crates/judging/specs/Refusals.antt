@@ -1,17 +1,11 @@
 -- The numbers of the refusals. 02, request 6: "Refusals, in order: mark (or under 8 bytes), version, length (or count above the limit or header's spare byte), any bad record, index (k from 0)."
 use Rattle.std.specs.Prelude.{ℕ}
+use Rattle.judging.specs.declared.Refusal.{Refusal}
+use Rattle.judging.specs.declared.Refusal.TheVariants.{BadMark, BadVersion, BadLength, BadRecord, BadIndex}
 
-abbrev pub bad_mark : ℕ
-bad_mark = 1
-
-abbrev pub bad_version : ℕ
-bad_version = 2
-
-abbrev pub bad_length : ℕ
-bad_length = 3
-
-abbrev pub bad_record : ℕ
-bad_record = 4
-
-abbrev pub bad_index : ℕ
-bad_index = 5
+abbrev pub refusal_number : Refusal → ℕ
+refusal_number BadMark = 1
+refusal_number BadVersion = 2
+refusal_number BadLength = 3
+refusal_number BadRecord = 4
+refusal_number BadIndex = 5

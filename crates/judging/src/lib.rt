@@ -5,30 +5,43 @@ ghost use Rattle.std.specs.Prelude.{◌≡◌, ◌&&◌, ◌<◌, ◌≤◌, len
 ghost use Rattle.moves.specs.Form.{header_size, program_at};
 ghost use Rattle.moves.specs.Reading.{record_in, count_in};
 ghost use Rattle.moves.specs.Kinds.{in_turn};
+ghost use Rattle.judging.specs.Refusals.{refusal_number};
 ghost use Rattle.lawful.specs.Right.{is_right, right_row};
 ghost use Rattle.lawful.specs.Versions.{size_in, start_in};
 ghost use Rattle.judging.specs.Judging.{mark_wrong, length_wrong, records_every, spare_zero, spares_zero, judged_as, judged, version_named};
 
 use lawful::Version;
 
-// The refusals, in the order in which they are asked. (02: "mark (or under 8 bytes), version, length (or count above the limit or header's spare byte), any bad record, index (k from 0)".)
-pub const BAD_MARK: u32 = 1;
-
-pub const BAD_VERSION: u32 = 2;
-
-pub const BAD_LENGTH: u32 = 3;
-
-pub const BAD_RECORD: u32 = 4;
-
-pub const BAD_INDEX: u32 = 5;
-
+// Why a list is refused, in the order in which it is asked. (02: "mark (or under 8 bytes), version, length (or count above the limit or header's spare byte), any bad record, index (k from 0)".)
 #[derive(Clone, Copy)]
-pub enum Judged {
-    Good(Version, usize),
-    Refused(u32),
+pub enum Refusal {
+    BadMark,
+    BadVersion,
+    BadLength,
+    BadRecord,
+    BadIndex,
 }
 
+// Its number, as a caller in C gets it.
+impl From<Refusal> for u32 {
+    ghost from_gives = { λ refusal n. n ≡ refusal_number refusal };
+
+    fn from(refusal: Refusal) -> u32 {
+        match refusal {
+            Refusal::BadMark => 1,
+            Refusal::BadVersion => 2,
+            Refusal::BadLength => 3,
+            Refusal::BadRecord => 4,
+            Refusal::BadIndex => 5,
+        }
+    }
+}
+
+// The number of version 2 in the header.
+const SECOND_VERSION: usize = moves::VERSION as usize;
+
 // "mark (or under 8 bytes)"
+#[tactic(auto, unfolding(crate::specs::Judging::mark_wrong))]
 fn mark_wrong(list: &[u8]) -> bool
     ensures { result ≡ mark_wrong list.now }
 {
@@ -46,13 +59,14 @@ pub fn version_named(list: &[u8]) -> Version
     requires { header_size ≤ length list.now }
     ensures { result ≡ version_named list.now }
 {
-    if fields::two_at(list, moves::AT_VERSION) == lawful::FIRST_VERSION {
-        return Version::One;
+    match fields::two_at(list, moves::AT_VERSION) {
+        lawful::FIRST_VERSION => Version::One,
+        _ => Version::Two,
     }
-    Version::Two
 }
 
 // "length (or count above the limit or header's spare byte)", of a list that has a header and this count in it.
+#[tactic(auto, unfolding(crate::specs::Judging::length_wrong))]
 fn length_wrong(list: &[u8], v: Version, count: usize) -> bool
     requires { (header_size ≤ length list.now) × (count ≡ count_in list.now) × (count < 65_536) }
     ensures { result ≡ length_wrong v list.now }
@@ -75,6 +89,7 @@ fn front_right(due: bool, part: &[u8]) -> bool
 }
 
 // Whether so many records are right, one behind the other.
+#[tactic(auto, using(crate::proofs::Judges::within, crate::proofs::Judges::next_start, crate::proofs::Judges::whole_what))]
 fn row_right(list: &[u8], v: Version, count: usize) -> bool
     requires { start_in v count ≤ length list.now }
     ensures { result ≡ (spares_zero (size_in v) count (drop header_size list.now) && right_row (records_every (size_in v) count (drop header_size list.now))) }
@@ -95,33 +110,33 @@ fn row_right(list: &[u8], v: Version, count: usize) -> bool
 }
 
 // Judges the length and the records of a list whose header names a version.
-fn judge_as(list: &[u8], v: Version) -> Judged
+#[tactic(auto, using(crate::proofs::Judges::right_length), unfolding(crate::specs::Judging::judged_as, crate::specs::Judging::records_wrong))]
+fn judge_as(list: &[u8], v: Version) -> Result<(Version, usize), Refusal>
     requires { header_size ≤ length list.now }
     ensures { result ≡ judged_as v list.now }
 {
     let count = fields::two_at(list, moves::AT_COUNT);
     if length_wrong(list, v, count) {
-        return Judged::Refused(crate::BAD_LENGTH);
+        return Err(Refusal::BadLength);
     }
     if !row_right(list, v, count) {
-        return Judged::Refused(crate::BAD_RECORD);
+        return Err(Refusal::BadRecord);
     }
-    Judged::Good(v, count)
+    Ok((v, count))
 }
 
-// Judges a list, in one pass over its records.
-pub fn judge_list(list: &[u8]) -> Judged
+// Judges a list, in one pass over its records: its version and how many records it has, or the first refusal.
+#[tactic(auto, using(crate::proofs::Judges::long_enough), unfolding(crate::specs::Judging::judged))]
+pub fn judge_list(list: &[u8]) -> Result<(Version, usize), Refusal>
     ensures { result ≡ judged list.now }
 {
     if mark_wrong(list) {
-        return Judged::Refused(crate::BAD_MARK);
+        return Err(Refusal::BadMark);
     }
-    let version = fields::two_at(list, moves::AT_VERSION);
-    if version == lawful::FIRST_VERSION {
-        return judge_as(list, Version::One);
-    }
-    if version == (moves::VERSION as usize) {
-        return judge_as(list, Version::Two);
-    }
-    Judged::Refused(crate::BAD_VERSION)
+    let version = match fields::two_at(list, moves::AT_VERSION) {
+        lawful::FIRST_VERSION => Version::One,
+        SECOND_VERSION => Version::Two,
+        _ => return Err(Refusal::BadVersion),
+    };
+    judge_as(list, version)
 }

@@ -46,13 +46,11 @@ fn put_records(list: &[u8], count: usize, out: &mut [u8], at: usize) -> usize
     ensures short { result ≤ at + longest_record_line * count }
 {
     let mut next = at;
-    let mut k = 0;
-    while k < count {
+    for k in 0..count {
         let listed = fields::listed_at(list, k);
         let what = listed.what;
         let origin = listed.origin;
         next = put_record(out, next, what, origin);
-        k += 1;
     }
     next
 }

@@ -4,11 +4,10 @@
 // as many as the header counts. `stdout` holds what 02 says of each, by a separate reading of it.
 #![tactic(auto)]
 
-ghost use Rattle.std.specs.Prelude.{◌<◌, ◌≤◌, length};
+ghost use Rattle.std.specs.Prelude.{◌<◌, ◌≤◌};
 
 use lawful::Version;
-use moves::Record;
-use readback::read::{ReadBack, Source};
+use moves::{Origin, Record};
 use std::io;
 use std::io::{Read, Write};
 
@@ -30,41 +29,24 @@ fn digit(c: u8) -> u8
     }
 }
 
-fn wide(n: u8) -> usize
-    ensures { result < 256 }
-{
-    n as usize
-}
-
 // The bytes of hexadecimal digits, and how many they are.
 fn decode(text: &[u8], list: &mut [u8; LONGEST]) -> usize
     ensures { result ≤ 65_536 }
 {
-    let mut n = 0;
-    let mut i = 0;
-    while i < text.len() {
-        let next = i + 1;
-        if next >= text.len() {
-            return n;
-        }
-        if n >= LONGEST {
-            return n;
-        }
-        let high = digit(text[i]);
-        let low = digit(text[next]);
-        list[n] = 16 * high + low;
-        n += 1;
-        i = next + 1;
+    let (pairs, _) = text.as_chunks::<2>();
+    for (byte, [high, low]) in list.iter_mut().zip(pairs) {
+        *byte = 16 * digit(*high) + digit(*low);
     }
-    n
+    pairs.len().min(LONGEST)
 }
 
 // The version that a header names, for the size of the records that are repeated.
 fn version_of(list: &[u8; LONGEST]) -> Version {
-    if wide(list[moves::AT_VERSION]) == lawful::FIRST_VERSION {
-        return Version::One;
+    if usize::from(list[moves::AT_VERSION]) == lawful::FIRST_VERSION {
+        Version::One
+    } else {
+        Version::Two
     }
-    Version::Two
 }
 
 // Repeats the last record until the list is as long as its header says.
@@ -72,36 +54,24 @@ fn repeat(list: &mut [u8; LONGEST], from: usize) -> usize
     requires { from ≤ 65_536 }
     ensures { result ≤ 65_536 }
 {
-    let count = wide(list[moves::AT_COUNT]) + 256 * wide(list[moves::AT_COUNT + 1]);
+    let count = u16::from_le_bytes([list[moves::AT_COUNT], list[moves::AT_COUNT + 1]]);
     let version = version_of(list);
-    let end = lawful::record_start(version, count);
     let size = lawful::record_size(version);
-    let mut n = from;
-    while n < end {
-        if n >= LONGEST {
-            return n;
-        }
-        if n < size {
-            return n;
-        }
-        let before = n - size;
-        list[n] = list[before];
-        n += 1;
+    if from < size {
+        return from;
     }
-    n
+    let end = lawful::record_start(version, usize::from(count)).min(LONGEST);
+    for n in from..end {
+        list[n] = list[n - size];
+    }
+    end.max(from)
 }
 
 // A number in decimal digits, below 65,536.
-fn number(text: &[u8]) -> usize
-    ensures { result < 65_536 }
-{
-    let mut n = 0;
-    let mut i = 0;
-    while i < text.len() {
-        n = (10 * n + wide(digit(text[i]))) % 65_536;
-        i += 1;
-    }
-    n
+fn number(text: &[u8]) -> u16 {
+    text.iter().fold(0u16, |n, c| {
+        n.wrapping_mul(10).wrapping_add(u16::from(digit(*c)))
+    })
 }
 
 fn print_record<W: Write>(out: &mut W, what: Record) -> io::Result<()> {
@@ -116,26 +86,26 @@ fn print_record<W: Write>(out: &mut W, what: Record) -> io::Result<()> {
 }
 
 // The program and the block, where the list tells them.
-fn print_source<W: Write>(out: &mut W, source: Source) -> io::Result<()> {
+fn print_source<W: Write>(out: &mut W, source: Option<Origin>) -> io::Result<()> {
     match source {
-        Source::From(origin) => {
+        Some(origin) => {
             let program = origin.program;
             let block = origin.block;
             write!(out, " {program} {block}")
         }
-        Source::Untold => Ok(()),
+        None => Ok(()),
     }
 }
 
 // What comes of a list and k.
 fn show<W: Write>(out: &mut W, list: &[u8], k: usize) -> io::Result<()> {
-    let back = readback::read::read_record(list, k);
-    match back {
-        ReadBack::Found(what, source) => {
+    match readback::read::read_record(list, k) {
+        Ok((what, source)) => {
             print_record(out, what)?;
             print_source(out, source)?;
         }
-        ReadBack::Refused(why) => {
+        Err(refusal) => {
+            let why = u32::from(refusal);
             write!(out, " REFUSED {why}")?;
         }
     }
@@ -149,72 +119,34 @@ fn list_of(text: &[u8], list: &mut [u8; LONGEST]) -> usize
     ensures { result ≤ 65_536 }
 {
     let n = decode(text, list);
-    let size = text.len();
-    if size == 0 {
-        return n;
+    if text.ends_with(&[REPEAT]) {
+        repeat(list, n)
+    } else {
+        n
     }
-    let last = size - 1;
-    if text[last] != REPEAT {
-        return n;
-    }
-    repeat(list, n)
-}
-
-// What comes of the first n bytes.
-fn show_first<W: Write>(out: &mut W, list: &[u8; LONGEST], n: usize, k: usize) -> io::Result<()>
-    requires { n ≤ 65_536 }
-{
-    show(out, &list[..n], k)
 }
 
 // A line's list, and what comes of it.
 fn show_list<W: Write>(out: &mut W, k: usize, text: &[u8]) -> io::Result<()> {
     let mut list = [0u8; LONGEST];
     let n = list_of(text, &mut list);
-    show_first(out, &list, n, k)
+    show(out, &list[..n], k)
 }
 
-// The place of the first byte b from `from` on, or the end.
-fn find(s: &[u8], from: usize, b: u8) -> usize
-    requires { from ≤ length s.now }
-    ensures { (from ≤ result) × (result ≤ length s.now) }
-{
-    let mut i = from;
-    while i < s.len() {
-        if s[i] == b {
-            return i;
-        }
-        i += 1;
-    }
-    i
-}
-
-// One line: a name, a number, a list.
+// One line: a name, a number, a list. What lacks one of them is none.
 fn show_line<W: Write>(out: &mut W, line: &[u8]) -> io::Result<()> {
-    let name = find(line, 0, b' ');
-    if name >= line.len() {
-        return Ok(());
+    let mut parts = line.splitn(3, |byte| *byte == b' ');
+    if let (Some(name), Some(k), Some(list)) = (parts.next(), parts.next(), parts.next()) {
+        out.write_all(name)?;
+        show_list(out, usize::from(number(k)), list)?;
     }
-    let first = name + 1;
-    let last = find(line, first, b' ');
-    if last >= line.len() {
-        return Ok(());
-    }
-    let list = last + 1;
-    out.write_all(&line[0..name])?;
-    show_list(out, number(&line[first..last]), &line[list..])
+    Ok(())
 }
 
 // One line after the other.
 fn show_all<W: Write>(out: &mut W, all: &[u8]) -> io::Result<()> {
-    let mut p = 0;
-    while p < all.len() {
-        let end = find(all, p, b'\n');
-        show_line(out, &all[p..end])?;
-        if end >= all.len() {
-            return Ok(());
-        }
-        p = end + 1;
+    for line in all.split(|byte| *byte == b'\n') {
+        show_line(out, line)?;
     }
     Ok(())
 }

@@ -63,6 +63,13 @@ pub struct Origin {
     pub block: u16,
 }
 
+// A record that is handed out, and what is left behind it: the cursor of a cycle, or what is due of a block.
+#[derive(Clone, Copy)]
+pub struct Handed<C> {
+    pub record: Record,
+    pub rest: C,
+}
+
 // A record as it stands in a list, with the block that it came from.
 #[derive(Clone, Copy)]
 pub struct Listed {

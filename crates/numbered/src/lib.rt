@@ -1,14 +1,13 @@
 // A record as seven numbers, as a caller in C gets it: kind, flags, X, Z, value, program and block. A list of version 1 has no program and block, and both are -1.
 #![tactic(auto)]
 
-ghost use Rattle.std.specs.Prelude.{◌≡◌, ◌++◌, ◌≤◌, pos, length, drop};
+ghost use Rattle.std.specs.Prelude.{◌≡◌, length};
 ghost use Rattle.judging.specs.Judging.{judged};
 ghost use Rattle.readback.specs.Lists.{read_of, read_judged};
-ghost use Rattle.numbered.specs.Numbers.{program_of, block_of, numbers_count, numbers_of, refusal_of, answer_of, numbers_after};
+ghost use Rattle.numbered.specs.Numbers.{program_of, block_of, numbers_of, refusal_of, answer_of, numbers_after};
 
-use judging::Judged;
-use moves::Record;
-use readback::read::{ReadBack, Source};
+use judging::Refusal;
+use moves::{Origin, Record};
 
 pub const COUNT: usize = 7;
 
@@ -18,74 +17,52 @@ pub const NONE: i64 = -1;
 // Fewer numbers are lent. It is asked last.
 pub const TOO_FEW_NUMBERS: u32 = 6;
 
-fn of_u32(v: u32) -> i64
-    ensures { result ≡ pos v }
-{
-    v as i64
-}
-
-fn of_i32(v: i32) -> i64
-    ensures { result ≡ v }
-{
-    v as i64
-}
-
-fn program_of(source: Source) -> i64
+fn program_of(source: Option<Origin>) -> i64
     ensures { result ≡ program_of source }
 {
     match source {
-        Source::From(origin) => of_u32(origin.program as u32),
-        Source::Untold => NONE,
+        Some(origin) => i64::from(origin.program),
+        None => NONE,
     }
 }
 
-fn block_of(source: Source) -> i64
+fn block_of(source: Option<Origin>) -> i64
     ensures { result ≡ block_of source }
 {
     match source {
-        Source::From(origin) => of_u32(origin.block as u32),
-        Source::Untold => NONE,
+        Some(origin) => i64::from(origin.block),
+        None => NONE,
     }
 }
 
-fn numbers_of(what: Record, source: Source) -> [i64; COUNT]
+#[tactic(auto, unfolding(crate::specs::Numbers::numbers_of))]
+fn numbers_of(what: Record, source: Option<Origin>) -> [i64; COUNT]
     ensures { result ≡ numbers_of what source }
 {
-    let kind = of_u32(what.kind as u32);
-    let flags = of_u32(what.flags as u32);
-    let x = of_i32(what.x);
-    let z = of_i32(what.z);
-    let value = of_u32(what.value);
-    let program = program_of(source);
-    let block = block_of(source);
-    [kind, flags, x, z, value, program, block]
-}
-
-fn put_numbers(numbers: &mut [i64], seven: [i64; COUNT])
-    requires { numbers_count ≤ length numbers.old }
-    ensures { numbers.new ≡ seven ++ drop numbers_count numbers.old }
-{
-    numbers[0] = seven[0];
-    numbers[1] = seven[1];
-    numbers[2] = seven[2];
-    numbers[3] = seven[3];
-    numbers[4] = seven[4];
-    numbers[5] = seven[5];
-    numbers[6] = seven[6];
+    [
+        i64::from(what.kind),
+        i64::from(what.flags),
+        i64::from(what.x),
+        i64::from(what.z),
+        i64::from(what.value),
+        program_of(source),
+        block_of(source),
+    ]
 }
 
 // What came of a reading: 0 and the numbers of the record, or why it is refused, and then the numbers are as they came.
-fn answer(back: ReadBack, numbers: &mut [i64]) -> u32
+#[tactic(auto, unfolding(crate::specs::Numbers::answer_of, crate::specs::Numbers::numbers_after))]
+fn answer(back: Result<(Record, Option<Origin>), Refusal>, numbers: &mut [i64]) -> u32
     ensures result { result ≡ answer_of back (length numbers.old) }
     ensures lent { numbers.new ≡ numbers_after back numbers.old }
 {
     match back {
-        ReadBack::Refused(why) => why,
-        ReadBack::Found(what, source) => {
+        Err(refusal) => u32::from(refusal),
+        Ok((what, source)) => {
             if numbers.len() < COUNT {
                 return TOO_FEW_NUMBERS;
             }
-            put_numbers(numbers, numbers_of(what, source));
+            numbers[..COUNT].copy_from_slice(&numbers_of(what, source));
             0
         }
     }
@@ -103,10 +80,9 @@ pub fn read(list: &[u8], k: usize, numbers: &mut [i64]) -> u32
 pub fn judge(list: &[u8]) -> u32
     ensures { result ≡ refusal_of (judged list.now) }
 {
-    let found = judging::judge_list(list);
-    match found {
-        Judged::Good(_, _) => 0,
-        Judged::Refused(why) => why,
+    match judging::judge_list(list) {
+        Ok(_) => 0,
+        Err(refusal) => u32::from(refusal),
     }
 }
 

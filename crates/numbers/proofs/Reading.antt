@@ -9,12 +9,10 @@ use native.Mathlib.Numerals.{add-one}
 use native.Mathlib.Omega.{arith}
 use borrow.Author.Tests.{lt-leb, le-leb, eq-eqb, ne_eqb, lt-ltb, le-ltb}
 use lib.Dec.{leb, ltb, eqb}
-use lib.IntN.{pos, neg_ℤ}
+use lib.IntN.{pos}
 use lib.ListN.{length, drop, get_or, drop_of_length-le, length-drop}
 use lib.Pow.{pow-add}
 use lib.Seq.{drop-cons, drop-drop}
-use mir.Syntax.{w32}
-use mir.Val.{SFits}
 use Rattle.letters.specs.Letters.{plus_sign, minus_sign, point, digit_zero, digit_nine}
 use Rattle.numbers.specs.declared.Digits.{Digits}
 use Rattle.numbers.specs.declared.Number.TheVariants.{Value, Bad}
@@ -31,11 +29,6 @@ pub digit_yes : (b : ℕ) → digit_zero ≤ b → b ≤ digit_nine → is_digit
 digit_yes b l h = rw (le-leb digit_zero b l, le-leb b digit_nine h)
 
 -- ---- sizes
--- a negated number fits
-pub neg_fits : (v : ℕ) → v < 2 ^ 31 → SFits w32 (neg_ℤ (pos v))
-neg_fits zero h = record { sfits = h }
-neg_fits (suc n) h = record { sfits = omega arith }
-
 -- ten to a power
 pub ten_more : (n : ℕ) → 10 ^ (n + 1) ≡ 10 ^ n * 10
 ten_more n = rw (add-one n) (pow-suc 10 n)

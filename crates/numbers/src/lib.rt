@@ -30,37 +30,21 @@ pub struct Digits {
     pub count: usize,
 }
 
-fn wide(b: u8) -> u32
-    ensures { result ≡ b }
-{
-    b as u32
-}
-
 // The digits that stand in `part` from `at` on, at most `limit` of them, which keeps the value within 32 bits.
 fn digit_run(part: &[u8], at: usize, limit: usize) -> Digits
     requires { (at ≤ length part.now) × (limit ≤ 7) }
     ensures { Run part.now at limit result }
 {
+    let most = limit.min(part.len() - at);
     let mut value: u32 = 0;
-    let mut n: usize = 0;
-    loop {
-        let p = at + n;
-        if n >= limit {
-            return Digits { value, count: n };
+    for count in 0..most {
+        let byte = part[at + count];
+        if !byte.is_ascii_digit() {
+            return Digits { value, count };
         }
-        if p >= part.len() {
-            return Digits { value, count: n };
-        }
-        let b = part[p];
-        if b < b'0' {
-            return Digits { value, count: n };
-        }
-        if b > b'9' {
-            return Digits { value, count: n };
-        }
-        value = value * 10 + wide(b - b'0');
-        n += 1;
+        value = value * 10 + u32::from(byte - b'0');
     }
+    Digits { value, count: most }
 }
 
 // How many micrometres the last of m digits behind a point is worth; 1000 where there is none.
@@ -80,7 +64,8 @@ fn with_sign(negative: bool, v: u32) -> i32
     requires { v < 10_000_000 }
     ensures { result ≡ with_sign negative v }
 {
-    if negative { 0 - (v as i32) } else { v as i32 }
+    let size = v as i32;
+    if negative { -size } else { size }
 }
 
 // A path number behind its sign, from `at` on.
@@ -119,13 +104,11 @@ fn read_unsigned_path(part: &[u8], at: usize, negative: bool) -> Number
 }
 
 // How many bytes the sign takes, by a number's first byte.
+#[tactic(auto, unfolding(crate::specs::Numbers::sign_size))]
 fn sign_size(b: u8) -> usize
     ensures { result ≡ sign_size b }
 {
-    if (b == b'-') | (b == b'+') {
-        return 1;
-    }
-    0
+    usize::from((b == b'-') | (b == b'+'))
 }
 
 fn read_path(part: &[u8]) -> Number

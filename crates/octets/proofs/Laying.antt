@@ -47,6 +47,20 @@ lent b a w ys e =
     ∙ ap (λ (x : List ℕ). take a b ++ x) (append-nil (w ++ drop (length w) (drop a b)))
     ∙ ap (λ (x : List ℕ). take a b ++ (w ++ x)) (drop-drop (length w) a b)
 
+-- a part of k from `a` on that was lent, and came back with w in its place
+pub lent_part : (b : List ℕ) (a k : ℕ) (w ys : List ℕ) → a + k ≤ length b → ys ≡ w → length ys ≡ length (take k (drop a b)) → put_mid a k b ys ≡ laid b a w
+unfolding laid
+lent_part b a k w ys h e l =
+    let room : k ≤ length (drop a b) = omega (arith, length-drop a b) in
+    let as_many : k ≡ length w = sym (length-take-le k (drop a b) room) ∙ sym l ∙ ap length e in
+    ap (put_mid a k b) e
+    ∙ ap (λ (x : List ℕ). take a b ++ (w ++ x)) (drop-drop k a b ∙ ap (λ (n : ℕ). drop (a + n) b) as_many)
+
+-- a part of k bytes from `at` on, into which w was copied
+pub copied : (b : List ℕ) (at k : ℕ) (w : List ℕ) → k ≡ length w → put_mid at k b w ≡ laid b at w
+unfolding laid
+copied b at k w e = ap (λ (x : List ℕ). take at b ++ (w ++ x)) (ap (λ (n : ℕ). drop n (drop at b)) e ∙ drop-drop (length w) at b)
+
 -- four bytes stored one after the other
 pub four_laid : (b : List ℕ) (at : ℕ) (w : List ℕ) → length w ≡ 4 → at + 4 ≤ length b
     → set (set (set (set b at (get_or w 0 0)) (at + 1) (get_or w 1 0)) (at + 2) (get_or w 2 0)) (at + 3) (get_or w 3 0) ≡ laid b at w
@@ -62,32 +76,6 @@ four_laid b at (w0 ∷ (w1 ∷ (w2 ∷ (w3 ∷ [])))) h k =
     (λ i. set (set (set (set b at w0) (one i) w1) (two i) w2) (three i) w3) ∙ sets-eq (w0 ∷ (w1 ∷ (w2 ∷ (w3 ∷ [])))) b at k
     ∙ append_assoc (take at b) (w0 ∷ (w1 ∷ (w2 ∷ (w3 ∷ [])))) (drop (at + 4) b)
 four_laid b at (w0 ∷ (w1 ∷ (w2 ∷ (w3 ∷ (w4 ∷ w))))) h k = absurd (omega arith)
-
--- eight bytes stored one after the other
-pub eight_laid : (b : List ℕ) (at : ℕ) (w : List ℕ) → length w ≡ 8 → at + 8 ≤ length b
-    → set (set (set (set (set (set (set (set b at (get_or w 0 0)) (at + 1) (get_or w 1 0)) (at + 2) (get_or w 2 0)) (at + 3) (get_or w 3 0)) (at + 4) (get_or w 4 0)) (at + 5) (get_or w 5 0)) (at + 6) (get_or w 6 0)) (at + 7) (get_or w 7 0)
-    ≡ laid b at w
-unfolding laid
-eight_laid b at [] h k = absurd (omega arith)
-eight_laid b at (w0 ∷ []) h k = absurd (omega arith)
-eight_laid b at (w0 ∷ (w1 ∷ [])) h k = absurd (omega arith)
-eight_laid b at (w0 ∷ (w1 ∷ (w2 ∷ []))) h k = absurd (omega arith)
-eight_laid b at (w0 ∷ (w1 ∷ (w2 ∷ (w3 ∷ [])))) h k = absurd (omega arith)
-eight_laid b at (w0 ∷ (w1 ∷ (w2 ∷ (w3 ∷ (w4 ∷ []))))) h k = absurd (omega arith)
-eight_laid b at (w0 ∷ (w1 ∷ (w2 ∷ (w3 ∷ (w4 ∷ (w5 ∷ [])))))) h k = absurd (omega arith)
-eight_laid b at (w0 ∷ (w1 ∷ (w2 ∷ (w3 ∷ (w4 ∷ (w5 ∷ (w6 ∷ []))))))) h k = absurd (omega arith)
-eight_laid b at (w0 ∷ (w1 ∷ (w2 ∷ (w3 ∷ (w4 ∷ (w5 ∷ (w6 ∷ (w7 ∷ [])))))))) h k =
-    let one : at + 1 ≡ suc at = omega arith in
-    let two : at + 2 ≡ suc (suc at) = omega arith in
-    let three : at + 3 ≡ suc (suc (suc at)) = omega arith in
-    let four : at + 4 ≡ suc (suc (suc (suc at))) = omega arith in
-    let five : at + 5 ≡ suc (suc (suc (suc (suc at)))) = omega arith in
-    let six : at + 6 ≡ suc (suc (suc (suc (suc (suc at))))) = omega arith in
-    let seven : at + 7 ≡ suc (suc (suc (suc (suc (suc (suc at)))))) = omega arith in
-    (λ i. set (set (set (set (set (set (set (set b at w0) (one i) w1) (two i) w2) (three i) w3) (four i) w4) (five i) w5) (six i) w6) (seven i) w7)
-    ∙ sets-eq (w0 ∷ (w1 ∷ (w2 ∷ (w3 ∷ (w4 ∷ (w5 ∷ (w6 ∷ (w7 ∷ [])))))))) b at k
-    ∙ append_assoc (take at b) (w0 ∷ (w1 ∷ (w2 ∷ (w3 ∷ (w4 ∷ (w5 ∷ (w6 ∷ (w7 ∷ [])))))))) (drop (at + 8) b)
-eight_laid b at (w0 ∷ (w1 ∷ (w2 ∷ (w3 ∷ (w4 ∷ (w5 ∷ (w6 ∷ (w7 ∷ (w8 ∷ w))))))))) h k = absurd (omega arith)
 
 -- bytes laid where others end are laid with them
 pub laid_on : (b : List ℕ) (at : ℕ) (v w : List ℕ) (n : ℕ) → at + length v ≡ n → n ≤ length b → laid (laid b at v) n w ≡ laid b at (v ++ w)

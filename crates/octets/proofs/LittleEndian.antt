@@ -6,7 +6,7 @@ use Prim.Native.Nat.{ℕ, zero, suc, ◌+◌, ◌-◌, ◌*◌, ◌/◌, ◌%◌
 use native.Mathlib.Nat.{div-lt_iff_lt-mul, pow-suc, zero-add, mul_comm, mul_assoc}
 use native.Mathlib.Omega.{arith}
 use lib.IntN.{ℤ, pos, negsuc}
-use lib.ListN.{length, get_or}
+use lib.ListN.{length}
 use borrow.Author.Tests.{lt-ltb, le-ltb}
 use mir.Syntax.{w32}
 use mir.Val.{SFits}
@@ -54,15 +54,6 @@ write_back (b ∷ bs) (h, hs) =
     let low : (b + 256 * value_of bs) % 256 ≡ b = omega arith in
     let high : (b + 256 * value_of bs) / 256 ≡ value_of bs = omega arith in
     (λ i. low i ∷ little_endian (length bs) (high i)) ∙ ap (λ (l : List ℕ). b ∷ l) (write_back bs hs)
-
--- ---- rows of known length, element by element
-pub four_value : (b : List ℕ) → length b ≡ 4 → value_of b ≡ get_or b 0 0 + 256 * (get_or b 1 0 + 256 * (get_or b 2 0 + 256 * get_or b 3 0))
-four_value [] h = absurd (omega arith)
-four_value (b0 ∷ []) h = absurd (omega arith)
-four_value (b0 ∷ (b1 ∷ [])) h = absurd (omega arith)
-four_value (b0 ∷ (b1 ∷ (b2 ∷ []))) h = absurd (omega arith)
-four_value (b0 ∷ (b1 ∷ (b2 ∷ (b3 ∷ [])))) h = omega arith
-four_value (b0 ∷ (b1 ∷ (b2 ∷ (b3 ∷ (b4 ∷ bs))))) h = absurd (omega arith)
 
 -- ---- the sign
 -- a number that 32 bits can hold is read back from its bits

@@ -22,8 +22,8 @@ use Rattle.axes.specs.Axis.{side, net}
 use Rattle.axes.specs.Goes.{rapid_to}
 use Rattle.axes.proofs.Axes.{line_fits}
 use Rattle.turning.specs.declared.Turning.{Turning}
-use Rattle.passes.specs.declared.Stage.{Stage}
-use Rattle.passes.specs.declared.Stage.TheVariants.{In, Cut, Out, Back}
+use Rattle.axes.specs.declared.Stage.{Stage}
+use Rattle.axes.specs.declared.Stage.TheVariants.{In, Cut, Out, Back}
 use Rattle.passes.specs.declared.Cursor.{Cursor}
 use Rattle.passes.specs.declared.Passed.{Passed}
 use Rattle.turning.specs.Turning.{too_short, pass_count, row, pass_for, pass_on, passes, turning}

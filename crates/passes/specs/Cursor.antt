@@ -7,9 +7,9 @@ use Rattle.division.specs.Division.{sum}
 use Rattle.division.specs.Carried.{row_of}
 use Rattle.moves.specs.declared.Record.{Record}
 use Rattle.axes.specs.Goes.{rapid_to, feed_to}
+use Rattle.axes.specs.declared.Stage.{Stage}
+use Rattle.axes.specs.declared.Stage.TheVariants.{In, Cut, Out, Back}
 use Rattle.turning.specs.Turning.{pass_on, passes}
-use Rattle.passes.specs.declared.Stage.{Stage}
-use Rattle.passes.specs.declared.Stage.TheVariants.{In, Cut, Out, Back}
 use Rattle.passes.specs.declared.Cursor.{Cursor}
 use Rattle.passes.specs.declared.Passed.{Passed}
 

@@ -3,23 +3,15 @@
 #![tactic(auto)]
 
 ghost use Rattle.std.specs.Prelude.{◌≡◌, true, false, ◌<◌};
+ghost use Rattle.axes.specs.declared.Stage.TheVariants.{In, Cut, Out, Back};
 ghost use Rattle.turning.specs.Turning.{too_short, turning};
-ghost use Rattle.passes.specs.declared.Stage.TheVariants.{In, Cut, Out, Back};
 ghost use Rattle.passes.specs.Cursor.{rest_of, over, before_pass, at, Sound, Makes, MakesPass};
 
+use axes::Stage;
 use division::Pieces;
-use moves::Record;
+use moves::{Handed, Record};
 use turning::{Pass, Turning};
 use whole::Side;
-
-// Which record of a pass comes next. 01: "rapid X to the pass line; feed Z to the end line; feed X to the start X; rapid Z to the start Z".
-#[derive(Clone, Copy)]
-pub enum Stage {
-    In,
-    Cut,
-    Out,
-    Back,
-}
 
 // `line` is the line of the present pass, between two passes that of the one before, and before the first pass the start; `depths` are those of the passes that are left behind it.
 #[derive(Clone, Copy)]
@@ -29,12 +21,6 @@ pub struct Cursor {
     pub line: i32,
     pub depths: Pieces,
     pub stage: Stage,
-}
-
-#[derive(Clone, Copy)]
-pub struct Handed {
-    pub record: Record,
-    pub rest: Cursor,
 }
 
 // A pass as a whole: its four records, and what is left behind them.
@@ -83,7 +69,7 @@ pub fn is_over(c: Cursor) -> bool
 }
 
 // The next record, and what is left behind it.
-pub fn next(c: Cursor) -> Handed
+pub fn next(c: Cursor) -> Handed<Cursor>
     requires { Sound c × (over c ≡ false) }
     ensures { Makes c result.record result.rest }
 {
@@ -113,7 +99,7 @@ fn at_stage(c: Cursor, stage: Stage) -> Cursor
 }
 
 // "rapid X to the pass line": the line before it, and one piece of the division more.
-fn go_in(c: Cursor) -> Handed
+fn go_in(c: Cursor) -> Handed<Cursor>
     requires { Sound c × (c.stage ≡ In) × (0 < c.depths.left) }
     ensures { Makes c result.record result.rest × (result.rest.stage ≡ Cut) }
 {
@@ -135,7 +121,7 @@ fn go_in(c: Cursor) -> Handed
 }
 
 // "feed Z to the end line"
-fn cut(c: Cursor) -> Handed
+fn cut(c: Cursor) -> Handed<Cursor>
     requires { Sound c × (c.stage ≡ Cut) }
     ensures { Makes c result.record result.rest × (result.rest.stage ≡ Out) }
 {
@@ -146,7 +132,7 @@ fn cut(c: Cursor) -> Handed
 }
 
 // "feed X to the start X"
-fn go_out(c: Cursor) -> Handed
+fn go_out(c: Cursor) -> Handed<Cursor>
     requires { Sound c × (c.stage ≡ Out) }
     ensures { Makes c result.record result.rest × (result.rest.stage ≡ Back) }
 {
@@ -157,7 +143,7 @@ fn go_out(c: Cursor) -> Handed
 }
 
 // "rapid Z to the start Z"
-fn go_back(c: Cursor) -> Handed
+fn go_back(c: Cursor) -> Handed<Cursor>
     requires { Sound c × (c.stage ≡ Back) }
     ensures { Makes c result.record result.rest × (result.rest.stage ≡ In) }
 {

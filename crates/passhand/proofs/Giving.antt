@@ -1,26 +1,22 @@
--- The next record of a cycle, whichever it is: what an answer means of the cycle that was read, and of the words that it was read from.
+-- The next record of a cycle, whichever it is: what the words behind it stand for, and what was given.
 -- Assumes nothing.
-use mathlib.Core.Path.{◌≡◌, refl, sym, ap, subst, ◌∙◌}
+use mathlib.Core.Path.{◌≡◌, sym, ap, subst, ◌∙◌}
 use mathlib.Core.Bool.{Bool, true, false, not, ◌&&◌}
 use mathlib.Core.List.{List, ◌++◌, append-nil}
 use Prim.Native.Nat.{ℕ, ◌+◌}
 use native.Mathlib.Omega.{arith}
-use lib.Dec.{eqb}
 use lib.ListN.{length, drop_of_length-le}
 use Rattle.octets.specs.Bytes.{laid}
-use Rattle.telling.proofs.Tells.{Tells, told_no}
 use Rattle.moves.specs.Form.{record_bytes, listed}
 use Rattle.moves.specs.declared.Record.{Record}
 use Rattle.moves.specs.declared.Origin.{Origin}
 use Rattle.stages.specs.Cursor.{cycle_over, DueSound, Sound, Makes}
 use Rattle.stages.specs.declared.Due.{Due}
 use Rattle.stages.specs.declared.Plan.{Plan}
-use Rattle.cells.specs.Numbers.{at}
 use Rattle.cyclewords.specs.Sizes.{due_words}
-use Rattle.handwords.specs.Due.{is_empty, deeds, is_deed, slot_of}
-use Rattle.passhand.specs.declared.Gave.{Gave}
-use Rattle.passhand.specs.declared.Gave.TheVariants.{Given, Unfit, Other}
-use Rattle.passhand.specs.Gives.{is_cycle, has_next, has_next_in, Holds, Put, Gives}
+use Rattle.handwords.specs.Due.{is_empty, is_deed, slot_of}
+use Rattle.passhand.specs.declared.Gave.TheVariants.{Given}
+use Rattle.passhand.specs.Gives.{is_cycle, has_next, Holds, Put, Gives}
 
 -- ---- the words behind a record
 -- words laid over all the others
@@ -40,41 +36,16 @@ module _ {t stops over : Bool} {v : List ℕ} (w x : List ℕ) (d : Due) (l : le
 pub put_none : {t stops : Bool} {v : List ℕ} (w x : List ℕ) (d : Due) → length w ≡ due_words → length x ≡ due_words → t ≡ cycle_over d → v ≡ laid w 0 x → t && not stops ≡ true → is_empty x ≡ true → Put stops d v
 put_none w x d l e is put tested none = put_as w x d l e is put tested none
 
-pub put_some : {t stops : Bool} {v : List ℕ} (w x : List ℕ) (d : Due) → length w ≡ due_words → length x ≡ due_words → t ≡ cycle_over d → v ≡ laid w 0 x → t && not stops ≡ false → at x 0 ≡ deeds → slot_of x ≡ d → Put stops d v
-put_some w x d l e is put tested first slot = put_as w x d l e is put tested (ap (λ (u : ℕ). eqb u deeds) first, slot)
+pub put_some : {t stops : Bool} {v : List ℕ} (w x : List ℕ) (d : Due) → length w ≡ due_words → length x ≡ due_words → t ≡ cycle_over d → v ≡ laid w 0 x → t && not stops ≡ false → is_deed x ≡ true → slot_of x ≡ d → Put stops d v
+put_some w x d l e is put tested deed slot = put_as w x d l e is put tested (deed, slot)
 
--- ---- the answer
+-- ---- a record is given
 -- of a cycle e that was read as the cycle d of the words
 module _ {d e : Due} {t : Bool} (o : Origin) (stops : Bool) (w b : List ℕ) (same : e ≡ d) (cycle : is_cycle e ≡ true) (is : t ≡ cycle_over e) where
-  goes : {over : Bool} → t ≡ over → has_next e ≡ not over
-  goes tested = λ i. cycle i && not ((sym is ∙ tested) i)
-
-  pub over_other : t ≡ true → Gives (has_next d) d o stops w b Other w b
-  over_other tested = subst (λ (x : Due). Gives (has_next x) x o stops w b Other w b) same (goes tested, refl, refl)
-
-  pub not_fit : {fit : Bool} → t ≡ false → Tells fit (DueSound e) → fit ≡ false → Gives (has_next d) d o stops w b Unfit w b
-  not_fit tested tells failed = subst (λ (x : Due). Gives (has_next x) x o stops w b Unfit w b) same (goes tested, told_no tells failed, refl, refl)
-
   pub given : {made : Record} {behind : Due} {v c : List ℕ} → t ≡ false → DueSound e → is_cycle behind ≡ true → ((p : Plan) → Sound p e → Makes p e made behind)
       → c ≡ laid b 0 (record_bytes (listed o made)) → Put stops behind v → Gives (has_next d) d o stops w b Given v c
   given {made} {behind} {v} {c} tested sound on makes bytes put =
       subst
       (λ (x : Due). Gives (has_next x) x o stops w b Given v c)
       same
-      (goes tested, sound, record { made = made; behind = behind; cycle = on; makes = makes; bytes = bytes; put = put })
-
--- of the words
-module _ (o : Origin) (stops : Bool) (w b : List ℕ) where
-  pub no_deed : is_deed w ≡ false → Gives (has_next_in w) (slot_of w) o stops w b Other w b
-  no_deed e = (ap (λ (x : Bool). x && has_next (slot_of w)) e, refl, refl)
-
-  module _ (deed : is_deed w ≡ true) where
-    pub no_cycle : has_next (slot_of w) ≡ false → Gives (has_next_in w) (slot_of w) o stops w b Other w b
-    no_cycle e = (λ i. deed i && e i, refl, refl)
-
-    pub by_slot : {d : Due} (r : Gave) (v c : List ℕ) → slot_of w ≡ d → Gives (has_next d) d o stops w b r v c → Gives (has_next_in w) (slot_of w) o stops w b r v c
-    by_slot r v c is g =
-        subst
-        (λ (x : Bool). Gives (x && has_next (slot_of w)) (slot_of w) o stops w b r v c)
-        (sym deed)
-        (subst (λ (x : Due). Gives (has_next x) x o stops w b r v c) (sym is) g)
+      ((λ i. cycle i && not ((sym is ∙ tested) i)), sound, record { made = made; behind = behind; cycle = on; makes = makes; bytes = bytes; put = put })

@@ -1,2 +1,2 @@
--- The laws of a cycle's next record, for the crates built on it.
-pub mod Giving
+-- The laws of a cycle's next record.
+mod Giving

@@ -1,25 +1,43 @@
 // The next record of a turning cycle.
-ghost use Rattle.std.specs.Prelude.{◌≡◌, ◌≤◌, length};
+ghost use Rattle.std.specs.Prelude.{◌≡◌, ◌≤◌, length, refl};
 ghost use Rattle.moves.specs.Form.{record_size};
 ghost use Rattle.stages.specs.declared.Due.TheVariants.{Turning};
 ghost use Rattle.cyclewords.specs.Sizes.{due_words};
 ghost use Rattle.cyclewords.specs.Turned.{turning_of};
-ghost use Rattle.passhand.specs.Gives.{has_next, Put, Gives};
+ghost use Rattle.passhand.specs.Gives.{has_next, Gives};
 
-use crate::Gave;
-use moves::Origin;
+use crate::{Gave, HandsOut};
+use cyclewords::DUE_WORDS;
+use moves::{Handed, Origin};
 use passes::Cursor;
 
-// Puts the cycle into the words, or nothing where its block is over: where the cycle is, and M00 or M30 does not stand behind it. (01: "motion or dwell, then M00 or M30.")
-fn put_behind(due: &mut [u32], c: Cursor, stops: bool)
-    requires { length due.old ≡ due_words }
-    ensures { Put stops (Turning c) due.new }
-{
-    if passes::is_over(c) & !stops {
-        cells::put::put_words(due, 0, &handwords::empty_words());
-        return;
+#[tactic(auto, using(handwords::proofs::Slots::slot_turning))]
+impl HandsOut for Cursor {
+    ghost due = { Turning };
+
+    ghost read = { turning_of };
+
+    ghost cycle = { λ c. refl };
+
+    fn cursor_of(words: &[u32]) -> Cursor {
+        cyclewords::turned::cursor_of(words)
     }
-    cells::put::put_words(due, 0, &cyclewords::turned::words_of(handwords::DEEDS, c));
+
+    fn is_over(self) -> bool {
+        passes::is_over(self)
+    }
+
+    fn is_fit(self) -> bool {
+        turnable::is_fit(self)
+    }
+
+    fn next(self) -> Handed<Cursor> {
+        passes::next(self)
+    }
+
+    fn words_of(self) -> [u32; DUE_WORDS] {
+        cyclewords::turned::words_of(handwords::DEEDS, self)
+    }
 }
 
 // Lays the next record, and puts the cycle behind it into the words. Where the cycle has none left or cannot go on, nothing is done.
@@ -27,17 +45,5 @@ pub fn give(due: &mut [u32], record: &mut [u8], origin: Origin, stops: bool) -> 
     requires { (length due.old ≡ due_words) × (record_size ≤ length «record».old) }
     ensures { Gives (has_next (Turning (turning_of due.old))) (Turning (turning_of due.old)) origin stops due.old «record».old result due.new «record».new }
 {
-    let c = cyclewords::turned::cursor_of(due);
-    if passes::is_over(c) {
-        return Gave::Other;
-    }
-    if !turnable::is_fit(c) {
-        return Gave::Unfit;
-    }
-    let handed = passes::next(c);
-    let what = handed.record;
-    let behind = handed.rest;
-    moves::list::put_record(record, what, origin);
-    put_behind(due, behind, stops);
-    Gave::Given
+    crate::give::<Cursor>(due, record, origin, stops)
 }

@@ -60,18 +60,7 @@ fn below_key(table: &[u64], count: usize, key: u64) -> usize
     if top < key {
         return count;
     }
-    let mut low: usize = 0;
-    let mut high = last;
-    while low < high {
-        let mid = low + (high - low) / 2;
-        let here = key_in(table[mid]);
-        if here < key {
-            low = mid + 1;
-        } else {
-            high = mid;
-        }
-    }
-    low
+    table[..count].partition_point(|entry| key_in(*entry) < key)
 }
 
 // The place of the line with a key among the first `count` entries, where they ascend. So it is with the two that follow.
@@ -118,11 +107,7 @@ pub fn holds(table: &[u64], count: usize, key: u64) -> bool
     requires { (count ≤ length table.now) × Row (take count table.now) }
     ensures { result ≡ is_held key (take count table.now) }
 {
-    let found = find(table, count, key);
-    match found {
-        Found::At(_) => true,
-        Found::Nowhere => false,
-    }
+    matches!(find(table, count, key), Found::At(_))
 }
 
 // Puts an entry at its place among the first `count`; those behind it move up by one, and all behind the row are as they came.
@@ -132,11 +117,8 @@ pub fn insert(table: &mut [u64], count: usize, entry: u64)
 {
     let key = key_in(entry);
     let at = below_key(table, count, key);
-    let mut i = count;
-    while at < i {
-        let before = i - 1;
-        table[i] = table[before];
-        i = before;
+    for i in (at..count).rev() {
+        table[i + 1] = table[i];
     }
     table[at] = entry;
 }

@@ -216,6 +216,13 @@ module _ (c : Cursor) (sound : Sound c) (stage : c.stage ≡ Out) {made : Record
       let w = within c sound stage Over tt (ap (λ (t : Bool). out_to c.groove c.width c.groove.depth.start ∷ cond t (others c) []) e) m b in
       (w.0, w.1 ∙ ap (λ (t : Bool). cond t Across Over) (sym e))
 
+-- ---- between two cuts
+-- the rapid to the depth reached less the retract
+pub drawn : (c : Cursor) → Sound c → c.stage ≡ Back → {t : ℕ} {made : Record} {rest : Cursor}
+    → t ≡ c.deep - c.groove.back → made ≡ out_to c.groove c.width (deep_at c.groove t) → rest ≡ at c Cut → Makes c made rest × (rest.stage ≡ Cut)
+unfolding rest_at
+drawn c sound stage d m b = within c sound stage Cut (is_ready c sound stage) refl (m ∙ ap (λ (t : ℕ). out_to c.groove c.width (deep_at c.groove t)) d) b
+
 -- ---- behind a plunge
 -- the rapid to the start
 pub goes_home : (c : Cursor) → Sound c → c.stage ≡ Across → c.steps.left ≡ 0 → {made : Record} {rest : Cursor}

@@ -12,7 +12,7 @@ ghost use Rattle.plunges.specs.Cursor.{rest_of, over, before_cut, before_cut_and
 
 use division::Pieces;
 use grooving::Groove;
-use moves::Record;
+use moves::{Handed, Record};
 use whole::Side;
 
 // Which record comes next: a cut, the rapid back between two cuts, the dwell, the rapid out, the rapid to the next plunge or to the start, or none.
@@ -38,12 +38,6 @@ pub struct Cursor {
     pub plunge: Pieces,
     pub steps: Pieces,
     pub several: bool,
-}
-
-#[derive(Clone, Copy)]
-pub struct Handed {
-    pub record: Record,
-    pub rest: Cursor,
 }
 
 // A cut and the rapid back behind it, and what is left behind them.
@@ -115,7 +109,7 @@ pub fn is_over(c: Cursor) -> bool
 }
 
 // The next record, and what is left behind it.
-pub fn next(c: Cursor) -> Handed
+pub fn next(c: Cursor) -> Handed<Cursor>
     requires { Sound c × (over c ≡ false) }
     ensures { Makes c result.record result.rest }
 {
@@ -131,9 +125,9 @@ pub fn next(c: Cursor) -> Handed
     }
 }
 
-// The same, for a path that has grooves alone (`cyclehand`). The choice is written out once more so that either has one caller and becomes a part of it: as a function by itself it would keep its
+// The same, for a path that has grooves alone (`passhand`). The choice is written out once more so that either has one caller and becomes a part of it: as a function by itself it would keep its
 // numbers below the stack pointer, also where a list is written, and an interrupt on the same stack would break them.
-pub fn next_alone(c: Cursor) -> Handed
+pub fn next_alone(c: Cursor) -> Handed<Cursor>
     requires { Sound c × (over c ≡ false) }
     ensures { Makes c result.record result.rest }
 {
@@ -153,20 +147,7 @@ pub fn next_alone(c: Cursor) -> Handed
 fn at_stage(c: Cursor, stage: Stage) -> Cursor
     ensures { result ≡ at c stage }
 {
-    let groove = c.groove;
-    let cuts = c.cuts;
-    let plunge = c.plunge;
-    let steps = c.steps;
-    Cursor {
-        groove,
-        stage,
-        width: c.width,
-        deep: c.deep,
-        cuts,
-        plunge,
-        steps,
-        several: c.several,
-    }
+    Cursor { stage, ..c }
 }
 
 // The place at depth t, from the start toward the target.
@@ -186,16 +167,6 @@ fn deep_at(g: Groove, t: u32) -> i32
     }
 }
 
-// What is left of t less `back`, and no less than 0.
-fn drawn_back(t: u32, back: u32) -> u32
-    ensures { result ≡ t - back }
-{
-    if t < back {
-        return 0;
-    }
-    t - back
-}
-
 // What follows a cut: the rapid back for the next one, or the dwell, or the rapid out.
 fn after_cut(left: u32, dwell: u32) -> Stage
     ensures { result ≡ after_cut left dwell }
@@ -210,7 +181,7 @@ fn after_cut(left: u32, dwell: u32) -> Stage
 }
 
 // A cut, one piece deeper than the one before it.
-pub fn cut(c: Cursor) -> Handed
+pub fn cut(c: Cursor) -> Handed<Cursor>
     requires { Sound c × (c.stage ≡ Cut) }
     ensures { Makes c result.record result.rest × (result.rest.stage ≡ after_cut (c.cuts.left - 1) c.groove.dwell) }
 {
@@ -238,19 +209,20 @@ pub fn cut(c: Cursor) -> Handed
 }
 
 // The rapid back between two cuts, not past the start.
-fn draw_back(c: Cursor) -> Handed
+fn draw_back(c: Cursor) -> Handed<Cursor>
     requires { Sound c × (c.stage ≡ Back) }
     ensures { Makes c result.record result.rest × (result.rest.stage ≡ Cut) }
 {
     let groove = c.groove;
-    let to = deep_at(groove, drawn_back(c.deep, groove.back));
+    let t = c.deep.saturating_sub(groove.back);
+    let to = deep_at(groove, t);
     let record = axes::goes::rapid_to(groove.facing, to, c.width);
     let rest = at_stage(c, Stage::Cut);
     Handed { record, rest }
 }
 
 // "Then dwell if D4 is above 0"
-pub fn dwell(c: Cursor) -> Handed
+pub fn dwell(c: Cursor) -> Handed<Cursor>
     requires { Sound c × (c.stage ≡ Dwell) }
     ensures { Makes c result.record result.rest × (result.rest.stage ≡ Out) }
 {
@@ -262,7 +234,7 @@ pub fn dwell(c: Cursor) -> Handed
 }
 
 // "rapid to start X"
-pub fn go_out(c: Cursor) -> Handed
+pub fn go_out(c: Cursor) -> Handed<Cursor>
     requires { Sound c × (c.stage ≡ Out) }
     ensures { Makes c result.record result.rest × (result.rest.stage ≡ cond c.several Across Over) }
 {
@@ -278,7 +250,7 @@ pub fn go_out(c: Cursor) -> Handed
 }
 
 // "rapid to the next Z", or, behind the last plunge, "rapid to start Z at the end"
-pub fn go_across(c: Cursor) -> Handed
+pub fn go_across(c: Cursor) -> Handed<Cursor>
     requires { Sound c × (c.stage ≡ Across) }
     ensures { Makes c result.record result.rest × (before_cut result.rest ≡ true) }
 {
@@ -289,7 +261,7 @@ pub fn go_across(c: Cursor) -> Handed
     go_on(c)
 }
 
-fn go_home(c: Cursor) -> Handed
+fn go_home(c: Cursor) -> Handed<Cursor>
     requires { Sound c × (c.stage ≡ Across) × (c.steps.left ≡ 0) }
     ensures { Makes c result.record result.rest × (before_cut result.rest ≡ true) }
 {
@@ -302,7 +274,7 @@ fn go_home(c: Cursor) -> Handed
 }
 
 // Behind another plunge there are several, whatever the flag was: the rapid to the start comes at the end.
-fn go_on(c: Cursor) -> Handed
+fn go_on(c: Cursor) -> Handed<Cursor>
     requires { Sound c × (c.stage ≡ Across) × (0 < c.steps.left) }
     ensures { Makes c result.record result.rest × (before_cut result.rest ≡ true) }
 {

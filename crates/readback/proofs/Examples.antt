@@ -13,15 +13,14 @@ use Rattle.moves.specs.Kinds.{flagged, plain, rapid, feed, miscellaneous}
 use Rattle.moves.specs.Reading.{record_in, origin_in}
 use Rattle.moves.specs.declared.Origin.{Origin}
 use Rattle.moves.specs.declared.Listed.{Listed}
-use Rattle.judging.specs.Refusals.{bad_mark, bad_version, bad_length, bad_index}
+use Rattle.judging.specs.declared.Refusal.TheVariants.{BadMark, BadVersion, BadLength, BadIndex}
 use Rattle.lawful.specs.Right.{flag_of, place_right, is_right, right_from}
 use Rattle.judging.specs.Judging.{mark_wrong, length_wrong, records_every, spares_zero, records_wrong, judged_as, judged}
 use Rattle.readback.specs.Lists.{found_at, read_of}
 use Rattle.readback.specs.Laws.{first_header, first_row}
 use Rattle.lawful.specs.declared.Version.TheVariants.{One, Two}
-use Rattle.judging.specs.declared.Judged.TheVariants.{Good, Refused}
-use Rattle.readback.specs.declared.read.Source.TheVariants.{From, Untold}
-use Rattle.readback.specs.declared.read.ReadBack.TheVariants as read
+use Rattle.std.specs.Prelude.{Ok, Err}
+use Rattle.std.specs.Prelude.{Some, None}
 
 -- ---- an arc between a rapid and M30, of the second and of the third block of a subprogram and of a block of the main program
 abbrev at : ℕ → ℕ → Origin
@@ -31,15 +30,15 @@ abbrev arc : List Listed
 arc = listed (at 80 20) (rapid (pos 40000) (pos 2000)) ∷ listed (at 80 30) (flagged 8 1 (pos 42000) (pos 1000) 120) ∷ listed (at 80 30) (plain 10 (pos 40000) (pos 1000) 0)
     ∷ listed (at 1 9999) (miscellaneous (pos 42000) (pos 1000) 30) ∷ []
 
-pub is_good : judged (list_bytes arc) ≡ Good Two 4
+pub is_good : judged (list_bytes arc) ≡ Ok (Two, 4)
 unfolding list_bytes header_bytes row_bytes record_bytes what_bytes origin_bytes signed_bytes signed_of record_in origin_in records_every flag_of place_right is_right right_from in_table mark_wrong length_wrong spares_zero records_wrong judged_as judged
 is_good = refl
 
-pub third : read_of (list_bytes arc) 2 ≡ read.Found (plain 10 (pos 40000) (pos 1000) 0) (From (at 80 30))
+pub third : read_of (list_bytes arc) 2 ≡ Ok (plain 10 (pos 40000) (pos 1000) 0, Some (at 80 30))
 unfolding list_bytes header_bytes row_bytes record_bytes what_bytes origin_bytes signed_bytes signed_of record_in origin_in records_every flag_of place_right is_right right_from in_table mark_wrong length_wrong spares_zero records_wrong judged_as judged found_at read_of
 third = refl
 
-pub no_fifth : read_of (list_bytes arc) 4 ≡ read.Refused bad_index
+pub no_fifth : read_of (list_bytes arc) 4 ≡ Err BadIndex
 unfolding list_bytes header_bytes row_bytes record_bytes what_bytes origin_bytes signed_bytes signed_of record_in origin_in records_every flag_of place_right is_right right_from in_table mark_wrong length_wrong spares_zero records_wrong judged_as judged found_at read_of
 no_fifth = refl
 
@@ -61,32 +60,32 @@ room_for_one_less = refl
 abbrev first : List ℕ
 first = first_header 1 ++ first_row (rapid (pos 40000) (pos 2000) ∷ [])
 
-pub first_good : judged first ≡ Good One 1
+pub first_good : judged first ≡ Ok (One, 1)
 unfolding first_header first_row what_bytes signed_bytes signed_of record_in records_every flag_of place_right is_right right_from in_table mark_wrong length_wrong spares_zero records_wrong judged_as judged
 first_good = refl
 
-pub first_untold : read_of first 0 ≡ read.Found (rapid (pos 40000) (pos 2000)) Untold
+pub first_untold : read_of first 0 ≡ Ok (rapid (pos 40000) (pos 2000), None)
 unfolding first_header first_row what_bytes signed_bytes signed_of record_in records_every flag_of place_right is_right right_from in_table mark_wrong length_wrong spares_zero records_wrong judged_as judged found_at read_of
 first_untold = refl
 
 -- ---- each refusal
-pub none : judged (list_bytes []) ≡ Good Two 0
+pub none : judged (list_bytes []) ≡ Ok (Two, 0)
 unfolding list_bytes header_bytes row_bytes records_every right_from mark_wrong length_wrong spares_zero records_wrong judged_as judged
 none = refl
 
-pub seven_bytes : judged (84 ∷ 77 ∷ 86 ∷ 1 ∷ 0 ∷ 0 ∷ 0 ∷ []) ≡ Refused bad_mark
+pub seven_bytes : judged (84 ∷ 77 ∷ 86 ∷ 1 ∷ 0 ∷ 0 ∷ 0 ∷ []) ≡ Err BadMark
 unfolding mark_wrong judged
 seven_bytes = refl
 
-pub third_version : judged (84 ∷ 77 ∷ 86 ∷ 3 ∷ 0 ∷ 0 ∷ 0 ∷ 0 ∷ []) ≡ Refused bad_version
+pub third_version : judged (84 ∷ 77 ∷ 86 ∷ 3 ∷ 0 ∷ 0 ∷ 0 ∷ 0 ∷ []) ≡ Err BadVersion
 unfolding mark_wrong judged
 third_version = refl
 
-pub spare_in_header : judged (84 ∷ 77 ∷ 86 ∷ 1 ∷ 0 ∷ 0 ∷ 0 ∷ 1 ∷ []) ≡ Refused bad_length
+pub spare_in_header : judged (84 ∷ 77 ∷ 86 ∷ 1 ∷ 0 ∷ 0 ∷ 0 ∷ 1 ∷ []) ≡ Err BadLength
 unfolding mark_wrong length_wrong judged_as judged
 spare_in_header = refl
 
-pub one_byte_more : judged (list_bytes [] ++ (0 ∷ [])) ≡ Refused bad_length
+pub one_byte_more : judged (list_bytes [] ++ (0 ∷ [])) ≡ Err BadLength
 unfolding list_bytes header_bytes row_bytes mark_wrong length_wrong judged_as judged
 one_byte_more = refl
 

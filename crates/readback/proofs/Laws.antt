@@ -10,13 +10,13 @@ use lib.ListN.{length, get_or, drop, length-append, length-drop}
 use lib.Seq.{drop_at, drop-drop, drop-cons}
 use borrow.Author.Tests.{eqb-true, not-false, eq-eqb, le-ltb}
 use Rattle.octets.specs.Bytes.{little_endian}
-use Rattle.moves.specs.Form.{header_size, record_size, version, mark, header_zero_at, header_bytes, what_bytes, origin_bytes, record_bytes, row_bytes, list_bytes, whats, AllFitting}
+use Rattle.moves.specs.Form.{header_size, record_size, mark, header_zero_at, header_bytes, what_bytes, origin_bytes, record_bytes, row_bytes, list_bytes, whats, AllFitting}
 use Rattle.moves.specs.Reading.{record_in, row_in, count_in, list_in}
 use Rattle.moves.specs.declared.Record.{Record}
 use Rattle.moves.specs.declared.Listed.{Listed}
 use Rattle.moves.proofs.Writing.{length_what}
 use Rattle.moves.proofs.OneReading.{length_record, length_row, what_read, row_read}
-use Rattle.judging.specs.Refusals.{bad_index}
+use Rattle.judging.specs.declared.Refusal.TheVariants.{BadIndex}
 use Rattle.lawful.specs.Right.{right_row, Lawful, FirstLawful}
 use Rattle.lawful.specs.Versions.{first_record_size, number_of, size_in, limit_in, start_in}
 use Rattle.judging.specs.Judging.{mark_differs, mark_wrong, length_wrong, records_every, spare_zero, spares_zero, records_wrong, judged_as, judged}
@@ -24,8 +24,7 @@ use Rattle.readback.specs.Lists.{found_at, source_in, read_of}
 use Rattle.readback.specs.Laws.{picked, ReadsBack, WrittenIsRead, Bytes, ReadIsWritten, first_header, first_row, first_picked, FirstReadsBack, FirstIsRead, first_in, FirstIsForm, OnceJudged}
 use Rattle.lawful.specs.declared.Version.{Version}
 use Rattle.lawful.specs.declared.Version.TheVariants.{One, Two}
-use Rattle.judging.specs.declared.Judged.TheVariants.{Good}
-use Rattle.readback.specs.declared.read.ReadBack.TheVariants as read
+use Rattle.std.specs.Prelude.{Ok, Err}
 use Rattle.judging.proofs.Judges.{none_true, both_true}
 use Rattle.readback.proofs.Accepted.{passed, good_length, good_count, every_k, once_judged}
 use Rattle.fields.proofs.Taking.{two_value}
@@ -69,12 +68,12 @@ module _ (v : Version) (n : ℕ) (few : n ≤ limit_in v) (row : List ℕ) (size
       ∙ ap (λ (t : Bool). not (t && right_row (records_every (size_in v) n row))) spares
       ∙ ap not right
 
-  as_good : judged_as v b ≡ Good v n
+  as_good : judged_as v b ≡ Ok (v, n)
   unfolding judged_as
-  as_good = rw (length_right, records_right) (ap (Good v) counted)
+  as_good = rw (length_right, records_right) (ap (λ (m : ℕ). Ok (v, m)) counted)
 
 accepts : (v : Version) (n : ℕ) (few : n ≤ limit_in v) (row : List ℕ) (size : length row ≡ size_in v * n) (spares : spares_zero (size_in v) n row ≡ true)
-    (right : right_row (records_every (size_in v) n row) ≡ true) → judged (header_of v n ++ row) ≡ Good v n
+    (right : right_row (records_every (size_in v) n row) ≡ true) → judged (header_of v n ++ row) ≡ Ok (v, n)
 unfolding judged
 accepts One n few row size spares right = rw (mark_right One n few row size spares right) (as_good One n few row size spares right)
 accepts Two n few row size spares right = rw (mark_right Two n few row size spares right) (as_good Two n few row size spares right)
@@ -95,28 +94,28 @@ spares_written (l ∷ ls) =
 
 -- record k of some bytes is record k of the row that is read off them
 row_picked : (n : ℕ) (l : List ℕ) (at k : ℕ) → k < n
-    → read.Found (record_in (drop (at + record_size * k) l)) (source_in Two (drop (at + record_size * k) l)) ≡ picked (row_in n (drop at l)) k
+    → Ok (record_in (drop (at + record_size * k) l), source_in Two (drop (at + record_size * k) l)) ≡ picked (row_in n (drop at l)) k
 unfolding row_in
 row_picked zero l at k h = absurd (omega arith)
 row_picked (suc n) l at zero h =
-    let e : at + record_size * zero ≡ at = omega arith in ap (λ (m : ℕ). read.Found (record_in (drop m l)) (source_in Two (drop m l))) e
+    let e : at + record_size * zero ≡ at = omega arith in ap (λ (m : ℕ). Ok (record_in (drop m l), source_in Two (drop m l))) e
 row_picked (suc n) l at (suc k) h =
     let e : at + record_size * suc k ≡ at + record_size + record_size * k = omega arith in
-    ap (λ (m : ℕ). read.Found (record_in (drop m l)) (source_in Two (drop m l))) e
+    ap (λ (m : ℕ). Ok (record_in (drop m l), source_in Two (drop m l))) e
     ∙ row_picked n l (at + record_size) k (omega arith)
     ∙ ap (λ (r : List ℕ). picked (row_in n r) k) (sym (drop-drop record_size at l))
 
-none_picked : (ls : List Listed) (k : ℕ) → length ls ≤ k → read.Refused bad_index ≡ picked ls k
+none_picked : (ls : List Listed) (k : ℕ) → length ls ≤ k → Err BadIndex ≡ picked ls k
 none_picked [] k h = refl
 none_picked (l ∷ ls) zero h = absurd (omega arith)
 none_picked (l ∷ ls) (suc k) h = none_picked ls k (omega arith)
 
-module _ (b : List ℕ) (n : ℕ) (good : judged b ≡ Good Two n) where
+module _ (b : List ℕ) (n : ℕ) (good : judged b ≡ Ok (Two, n)) where
   read_length : length (list_in b) ≡ n
   unfolding list_in
   read_length = row_length (count_in b) (drop header_size b) ∙ sym (passed b n Two good).count
 
-  there : (k : ℕ) → k < n → found_at Two b k ≡ picked (list_in b) k
+  there : (k : ℕ) → k < n → Ok (found_at Two b k) ≡ picked (list_in b) k
   unfolding list_in found_at
   there k h = row_picked (count_in b) b header_size k (omega (arith, (passed b n Two good).count, h))
 
@@ -131,7 +130,7 @@ module _ (ls : List Listed) (f : Lawful ls) where
   right_is : right_row (records_every record_size (length ls) (row_bytes ls)) ≡ true
   right_is = ap right_row (every_what (length ls) (row_bytes ls) ∙ ap whats row_is) ∙ f.right
 
-  list_accepted : judged (list_bytes ls) ≡ Good Two (length ls)
+  list_accepted : judged (list_bytes ls) ≡ Ok (Two, length ls)
   unfolding list_bytes header_bytes
   list_accepted = accepts Two (length ls) f.few (row_bytes ls) (length_row ls) (spares_written ls) right_is
 
@@ -147,7 +146,7 @@ written_is_read b ls w =
     (record { accepted = good; each = λ k. each_read (list_bytes ls) (length ls) good k ∙ ap (λ (l : List Listed). picked l k) (reads ls w.lawful) })
 
 -- ---- what is accepted is written back
-module _ (b : List ℕ) (h : Bytes b) (n : ℕ) (v : Version) (good : judged b ≡ Good v n) where
+module _ (b : List ℕ) (h : Bytes b) (n : ℕ) (v : Version) (good : judged b ≡ Ok (v, n)) where
   abbrev p : ℕ → ℕ
   p i = get_or b i 0
 
@@ -210,7 +209,7 @@ module _ (b : List ℕ) (h : Bytes b) (n : ℕ) (v : Version) (good : judged b �
       behind m = omega arith
 
 -- WRITING WHAT WAS READ GIVES THE BYTES, of all bytes that are accepted as version 2: and so nothing is accepted as version 2 but lists in the written form
-module _ (b : List ℕ) (h : Bytes b) (n : ℕ) (good : judged b ≡ Good Two n) where
+module _ (b : List ℕ) (h : Bytes b) (n : ℕ) (good : judged b ≡ Ok (Two, n)) where
   parts : (spares_zero record_size (count_in b) (drop header_size b) ≡ true) × (right_row (records_every record_size (count_in b) (drop header_size b)) ≡ true)
   parts = both_true _ _ (asked b h n Two good)
 
@@ -236,7 +235,7 @@ module _ (b : List ℕ) (h : Bytes b) (n : ℕ) (good : judged b ≡ Good Two n)
 pub read_is_written : (b : List ℕ) → ReadIsWritten b
 read_is_written b h n good = (
   record { lawful = lawful_read b h n good; bytes = sym (list_back b h n good) },
-  record { accepted = good ∙ ap (Good Two) (sym (read_length b n good)); each = each_read b n good },
+  record { accepted = good ∙ ap (λ (m : ℕ). Ok (Two, m)) (sym (read_length b n good)); each = each_read b n good },
   read_length b n good,
 )
 
@@ -260,27 +259,27 @@ first_read (r ∷ rs) f =
     ∙ ap (λ (l : List Record). r ∷ l) (first_read rs f.1)
 
 first_there : (n : ℕ) (l : List ℕ) (at k : ℕ) → k < n
-    → read.Found (record_in (drop (at + first_record_size * k) l)) (source_in One (drop (at + first_record_size * k) l)) ≡ first_picked (records_every first_record_size n (drop at l)) k
+    → Ok (record_in (drop (at + first_record_size * k) l), source_in One (drop (at + first_record_size * k) l)) ≡ first_picked (records_every first_record_size n (drop at l)) k
 unfolding records_every
 first_there zero l at k h = absurd (omega arith)
 first_there (suc n) l at zero h =
-    let e : at + first_record_size * zero ≡ at = omega arith in ap (λ (m : ℕ). read.Found (record_in (drop m l)) (source_in One (drop m l))) e
+    let e : at + first_record_size * zero ≡ at = omega arith in ap (λ (m : ℕ). Ok (record_in (drop m l), source_in One (drop m l))) e
 first_there (suc n) l at (suc k) h =
     let e : at + first_record_size * suc k ≡ at + first_record_size + first_record_size * k = omega arith in
-    ap (λ (m : ℕ). read.Found (record_in (drop m l)) (source_in One (drop m l))) e
+    ap (λ (m : ℕ). Ok (record_in (drop m l), source_in One (drop m l))) e
     ∙ first_there n l (at + first_record_size) k (omega arith)
     ∙ ap (λ (r : List ℕ). first_picked (records_every first_record_size n r) k) (sym (drop-drop first_record_size at l))
 
-first_none : (rs : List Record) (k : ℕ) → length rs ≤ k → read.Refused bad_index ≡ first_picked rs k
+first_none : (rs : List Record) (k : ℕ) → length rs ≤ k → Err BadIndex ≡ first_picked rs k
 first_none [] k h = refl
 first_none (r ∷ rs) zero h = absurd (omega arith)
 first_none (r ∷ rs) (suc k) h = first_none rs k (omega arith)
 
-module _ (b : List ℕ) (n : ℕ) (good : judged b ≡ Good One n) where
+module _ (b : List ℕ) (n : ℕ) (good : judged b ≡ Ok (One, n)) where
   first_count : length (first_in b) ≡ n
   first_count = first_length (count_in b) (drop header_size b) ∙ sym (passed b n One good).count
 
-  first_found : (k : ℕ) → k < n → found_at One b k ≡ first_picked (first_in b) k
+  first_found : (k : ℕ) → k < n → Ok (found_at One b k) ≡ first_picked (first_in b) k
   unfolding found_at
   first_found k h = first_there (count_in b) b header_size k (omega (arith, (passed b n One good).count, h))
 
@@ -291,7 +290,7 @@ module _ (rs : List Record) (f : FirstLawful rs) where
   abbrev first_bytes : List ℕ
   first_bytes = first_header (length rs) ++ first_row rs
 
-  first_accepted : judged first_bytes ≡ Good One (length rs)
+  first_accepted : judged first_bytes ≡ Ok (One, length rs)
   unfolding first_header
   first_accepted = accepts One (length rs) f.few (first_row rs) (first_row_length rs) (first_spares rs) (ap right_row (first_read rs f.each) ∙ f.right)
 
@@ -305,7 +304,7 @@ first_is_read b rs w =
     subst (λ (l : List ℕ). FirstReadsBack l rs) (sym w.bytes)
     (record { accepted = good; each = λ k. first_each (first_bytes rs w.lawful) (length rs) good k ∙ ap (λ (l : List Record). first_picked l k) (first_reads rs w.lawful) })
 
-module _ (b : List ℕ) (h : Bytes b) (n : ℕ) (good : judged b ≡ Good One n) where
+module _ (b : List ℕ) (h : Bytes b) (n : ℕ) (good : judged b ≡ Ok (One, n)) where
   first_parts : (spares_zero first_record_size (count_in b) (drop header_size b) ≡ true) × (right_row (first_in b) ≡ true)
   first_parts = both_true _ _ (asked b h n One good)
 
@@ -326,7 +325,7 @@ first_is_form b h n good = (
     };
     bytes = sym (first_list_back b h n good);
   },
-  record { accepted = good ∙ ap (Good One) (sym (first_count b n good)); each = first_each b n good },
+  record { accepted = good ∙ ap (λ (m : ℕ). Ok (One, m)) (sym (first_count b n good)); each = first_each b n good },
   first_count b n good,
 )
 

@@ -2,32 +2,18 @@
 -- Assumes nothing.
 use mathlib.Core.Path.{◌≡◌, refl, sym, ap, ◌∙◌, subst}
 use mathlib.Core.Bool.{Bool, true, false, not, ◌&&◌, ◌||◌}
-use Prim.Native.Nat.{ℕ, suc, ◌+◌, ◌-◌, ◌≤◌, ◌<◌}
+use mathlib.Core.List.{List, [], ◌∷◌}
+use Prim.Native.Nat.{ℕ, zero, suc, ◌+◌, ◌≤◌}
+use native.Mathlib.Numerals.{add-one}
 use native.Mathlib.Omega.{arith}
-use lib.Dec.{T}
-use lib.ListN.{get_or}
+use lib.Dec.{T, eqb}
+use lib.ListN.{length, get_or, take, drop}
+use lib.Seq.{drop-cons}
+use Rattle.std.specs.List.{fold, list_any}
 use borrow.Author.Tests.{ne_eqb}
 use Rattle.block.specs.declared.Block.{Block}
-use Rattle.block.specs.Slots.{numbers_from, has, any_of}
-
--- a test of the numbers from k to before `to`, by the first of them
-module _ (test : ℕ → Bool) (k to : ℕ) where
-  abbrev from : Bool
-  from = any_of test (numbers_from k (to - k))
-
-  pub by_first : k < to → from ≡ (test k || any_of test (numbers_from (k + 1) (to - (k + 1))))
-  unfolding any_of
-  by_first l = let e : to - k ≡ suc (to - (k + 1)) = omega arith in ap (λ (n : ℕ). any_of test (numbers_from k n)) e
-
-  pub any_end : to ≤ k → from ≡ false
-  unfolding any_of
-  any_end h = let e : to - k ≡ 0 = omega arith in ap (λ (n : ℕ). any_of test (numbers_from k n)) e
-
-  pub any_hit : k < to → test k ≡ true → from ≡ true
-  any_hit l h = by_first l ∙ ap (λ (t : Bool). t || any_of test (numbers_from (k + 1) (to - (k + 1)))) h
-
-  pub any_more : k < to → test k ≡ false → from ≡ any_of test (numbers_from (k + 1) (to - (k + 1)))
-  any_more l h = by_first l ∙ ap (λ (t : Bool). t || any_of test (numbers_from (k + 1) (to - (k + 1)))) h
+use Rattle.stands.specs.Stands.{is_taken}
+use Rattle.block.specs.Slots.{numbers_from, has, any_of, any_in}
 
 -- a test that was found to hold of one before it, or holds of it
 pub or_more : (found t rest : Bool) → (found || (t || rest)) ≡ ((found || t) || rest)
@@ -37,6 +23,26 @@ or_more false t rest = refl
 pub or_end : (found : Bool) → (found || false) ≡ found
 or_end true = refl
 or_end false = refl
+
+-- whether a word applies in some of the slots whose places these are, or was found before
+abbrev pub or_some : Bool → ℕ → Bool
+or_some found place = found || not (eqb place 0)
+
+pub some_folded : (b : Block) (n from : ℕ) → from + n ≤ length b.place → (found : Bool) → fold or_some found (take n (drop from b.place)) ≡ (found || any_in b (numbers_from from n))
+unfolding any_of has
+some_folded b zero from h found = sym (or_end found)
+some_folded b (suc n) from h found =
+    rw (drop-cons b.place from 0 (omega (arith, h)), ← add-one from) (some_folded b n (from + 1) (omega (arith, h)) (or_some found (get_or b.place from 0)) ∙ sym (or_more found (has b from) (any_in b (numbers_from (from + 1) n))))
+
+-- the four that are taken, as a list
+pub taken_any : (takes : List ℕ) (i : ℕ) → length takes ≡ 4 → list_any (λ y. eqb y i) takes ≡ is_taken takes i
+unfolding is_taken
+taken_any (a ∷ (b ∷ (c ∷ (d ∷ [])))) i h = ap (λ (t : Bool). eqb a i || (eqb b i || (eqb c i || t))) (or_end (eqb d i))
+taken_any [] i h = absurd (omega (arith, h))
+taken_any (a ∷ []) i h = absurd (omega (arith, h))
+taken_any (a ∷ (b ∷ [])) i h = absurd (omega (arith, h))
+taken_any (a ∷ (b ∷ (c ∷ []))) i h = absurd (omega (arith, h))
+taken_any (a ∷ (b ∷ (c ∷ (d ∷ (e ∷ r))))) i h = absurd (omega (arith, h))
 
 -- a slot whose place was tested
 pub has_some : (b : Block) (k : ℕ) → (get_or b.place k 0 ≡ 0 → ⊥) → has b k ≡ true

@@ -18,13 +18,9 @@ fn any(b: Block, from: usize, to: usize) -> bool
     requires { (from ≤ to) × (to ≤ slots) }
     ensures { result ≡ any_in b (numbers_from from (to - from)) }
 {
-    let mut found = false;
-    let mut k = from;
-    while k < to {
-        found = found | (b.place[k] != 0);
-        k += 1;
-    }
-    found
+    b.place[from..to]
+        .iter()
+        .fold(false, |found, place| found | (*place != 0))
 }
 
 // Whether the block is a G25 or a G27 block.
@@ -94,7 +90,7 @@ fn centre_wrong(centre: bool, b: Block) -> bool
 fn is_taken(takes: [usize; 4], i: usize) -> bool
     ensures { result ≡ is_taken takes i }
 {
-    (takes[0] == i) | ((takes[1] == i) | ((takes[2] == i) | (takes[3] == i)))
+    takes.contains(&i)
 }
 
 // Whether the D word of an index, whose place this is, stands in the block and is not taken.
@@ -111,17 +107,7 @@ fn is_foreign(takes: [usize; 4], place: u8, i: usize) -> bool
 fn d_word_wrong(takes: [usize; 4], b: Block) -> bool
     ensures { result ≡ d_word_wrong takes b }
 {
-    let mut i = 0;
-    let r = loop {
-        if i >= INDEXES {
-            break false;
-        }
-        if is_foreign(takes, b.place[block::D + i], i) {
-            break true;
-        }
-        i += 1;
-    };
-    r
+    (0..INDEXES).any(|i| is_foreign(takes, b.place[block::D + i], i))
 }
 
 // "G86 also D5"

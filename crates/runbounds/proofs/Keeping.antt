@@ -1,15 +1,14 @@
 -- Tests that tell whether a run is within its bounds; and such a run fits into the words.
 -- Assumes nothing.
-use mathlib.Core.Path.{◌≡◌, refl, sym, subst}
+use mathlib.Core.Path.{◌≡◌, refl}
 use mathlib.Core.Bool.{Bool, true, false, ◌&&◌}
-use mathlib.Core.List.{List}
-use mathlib.Core.Logic.{⊎_elim}
-use Prim.Native.Nat.{ℕ, ◌+◌, ◌≤◌, ◌<◌}
-use native.Mathlib.Nat.{eq-or-lt_of_le}
+use mathlib.Core.List.{List, [], ◌∷◌}
+use Prim.Native.Nat.{ℕ, zero, suc, ◌≤◌, ◌<◌}
 use native.Mathlib.Omega.{arith}
 use lib.Dec.{leb}
 use lib.ListN.{length, get_or}
-use Rattle.telling.proofs.Tells.{Tells, never, tells_no, tells_at_most}
+use Rattle.std.specs.List.{list_all}
+use Rattle.telling.proofs.Tells.{Tells, never, tells_no, tells_yes, tells_at_most}
 use Rattle.moves.specs.Form.{record_limit}
 use Rattle.reading.specs.Reading.{longest_tape}
 use Rattle.ahead.specs.Ahead.{most_calls}
@@ -33,9 +32,24 @@ at_most n most = tells_at_most n most (λ h. h) (λ h. h)
 abbrev pub WaitTo : ℕ → List Waiting → ℕ → Type 0
 WaitTo end ws n = (k : ℕ) → k < n → Waits end (get_or ws k nobody)
 
-pub next_waits : (end : ℕ) (ws : List Waiting) (k : ℕ) → WaitTo end ws k → Waits end (get_or ws k nobody) → WaitTo end ws (k + 1)
-next_waits end ws k h one j l =
-    ⊎_elim (λ (e : j ≡ k). subst (λ (n : ℕ). Waits end (get_or ws n nobody)) (sym e) one) (λ m. h j m) (eq-or-lt_of_le (omega arith))
+-- what is asked of one of them, and of all
+abbrev pub waits : ℕ → Waiting → Bool
+waits end w = leb w.program.line end && leb w.after end
+
+one_waits : (end : ℕ) (w : Waiting) → Tells (waits end w) (Waits end w)
+one_waits end w =
+    let t = both (at_most w.program.line end) (at_most w.after end) in
+    ((λ e. record { line = (t.0 e).0; after = (t.0 e).1 }), (λ h. t.1 (h.line, h.after)))
+
+pub all_wait : (end : ℕ) (ws : List Waiting) → Tells (list_all (waits end) ws) (WaitTo end ws (length ws))
+all_wait end [] = tells_yes (λ k h. absurd (omega (arith, h)))
+all_wait end (w ∷ ws) =
+    let t = both (one_waits end w) (all_wait end ws) in
+    ((λ e. first (t.0 e)), (λ h. t.1 (h 0 (omega arith), λ k l. h (suc k) (omega (arith, l)))))
+  where
+    first : Waits end w × WaitTo end ws (length ws) → WaitTo end (w ∷ ws) (suc (length ws))
+    first p zero l = p.0
+    first p (suc k) l = p.1 k (omega (arith, l))
 
 -- ---- the answer
 pub tells_complete : (count : ℕ) → Tells (leb count longest_tape) (Answers (Over (Complete count)))

@@ -17,18 +17,9 @@ fn wait_within(waiting: [Waiting; runwords::MOST_WAITING], end: usize) -> bool
     ensures sound { result ≡ true → (length waiting ≡ most_calls) × ((k : ℕ) → k < most_calls → Waits end (get_or waiting k nobody)) }
     ensures all { (length waiting ≡ most_calls) × ((k : ℕ) → k < most_calls → Waits end (get_or waiting k nobody)) → result ≡ true }
 {
-    let mut k = 0;
-    while k < runwords::MOST_WAITING {
-        let one = waiting[k];
-        if end < one.program.line {
-            return false;
-        }
-        if end < one.after {
-            return false;
-        }
-        k += 1;
-    }
-    true
+    waiting
+        .iter()
+        .all(|one| (one.program.line <= end) & (one.after <= end))
 }
 
 // Whether the place and the count of the answer, where the run has come to one, have 16 bits.

@@ -7,14 +7,20 @@ use native.Mathlib.Omega.{arith}
 use lib.ListN.{length, get_or, take, drop, set, length-set}
 use native.Mathlib.Numerals.{add-one}
 use lib.Seq.{sets-eq, take_all, length-take-le}
-use Rattle.octets.specs.Bytes.{laid}
+use lib.IntN.{ℤ, pos, negsuc}
+use mathlib.Core.Bool.{Bool, true, false}
+use mir.Syntax.{w32}
+use mir.Val.{SFits}
+use Rattle.std.specs.Int.{from_bool, cast_unsigned}
+use Rattle.octets.specs.Bytes.{word_of, signed_bytes, laid}
 use Rattle.octets.proofs.Laying.{laid_nil, laid_on, four_laid}
+use Rattle.octets.proofs.LittleEndian.{read_back, word_fits, signed_read_back}
 use Rattle.ahead.specs.Ahead.{most_calls}
 use Rattle.runwords.specs.of_taking.declared.Run.{Run}
 use Rattle.runwords.specs.of_resuming.declared.Waiting.{Waiting}
 use Rattle.runwords.specs.of_paused.Kept.{nobody}
 use Rattle.runwords.specs.Taken.{going_words, end_from, frame_from, run_from, waiting_from, waiting_words}
-use Rattle.runwords.specs.Laid.{kept_tag, yes_word, signed_word, run_words, words_of, all_words, Put}
+use Rattle.runwords.specs.Laid.{kept_tag, yes_word, signed_word, run_words, ReadBack, words_of, all_words, Put}
 
 pub none_put : (b : List ℕ) (from : ℕ) → Put b from [] b
 none_put b from = record { is = sym (laid_nil b from); long = refl }
@@ -65,6 +71,22 @@ next_laid ws k n l h p q is =
 
 pub all_laid : {b m : List ℕ} (ws : List Waiting) (k : ℕ) → length ws ≡ most_calls → most_calls ≤ k → LaidTo b ws k m → Put b waiting_from (all_words ws) m
 all_laid {b} {m} ws k n h p = subst (λ (l : List Waiting). Put b waiting_from (all_words l) m) (take_all k ws (omega arith)) p.0
+
+-- ---- numbers and flags as words
+pub yes_is : (b : Bool) → from_bool b ≡ yes_word b
+yes_is true = refl
+yes_is false = refl
+
+unsigned_is : (z : ℤ) → cast_unsigned w32 z ≡ word_of z
+unsigned_is (pos n) = refl
+unsigned_is (negsuc n) = refl
+
+pub word_is : (z : ℤ) → SFits w32 z → cast_unsigned w32 z ≡ signed_word z
+unfolding signed_bytes
+word_is z f = unsigned_is z ∙ sym (read_back 4 (word_of z) (word_fits z f))
+
+pub run_back : (r : Run) → SFits w32 r.state.x → SFits w32 r.state.z → ReadBack r
+run_back r f g = record { x = signed_read_back r.state.x f; z = signed_read_back r.state.z g }
 
 -- ---- the run, in three parts
 pub run_put : (r : Run) {b d m e : List ℕ} {count motion g96 g95 due x z : ℕ} → length b ≡ going_words → Put b run_from (r.blocks_left ∷ count ∷ motion ∷ g96 ∷ []) d

@@ -2,11 +2,10 @@
 #![tactic(auto)]
 
 ghost use Rattle.std.specs.Prelude.{◌≡◌, [], ◌∷◌, ℕ, ◌+◌, ◌<◌, ◌≤◌, length, get_or};
-ghost use Rattle.octets.specs.Bytes.{signed_of};
 ghost use Rattle.ahead.specs.Ahead.{most_calls};
 ghost use Rattle.runwords.specs.of_paused.Kept.{nobody};
 ghost use Rattle.runwords.specs.Taken.{going_words, phase_of, end_from, run_from, tag_of, waiting_from, going_of};
-ghost use Rattle.runwords.specs.Laid.{phase_words, frame_words, kept_tag, yes_word, signed_word, run_words, ReadBack, words_of, all_words, Put, word_range, SmallPhase, SmallWaiting, Small};
+ghost use Rattle.runwords.specs.Laid.{phase_words, frame_words, kept_tag, run_words, ReadBack, words_of, all_words, Put, word_range, SmallPhase, SmallWaiting, Small};
 
 use acts::Kept;
 use ahead::Frame;
@@ -17,32 +16,6 @@ pub use runwords::paused;
 use runwords::paused::{Going, Phase};
 use runwords::resuming::Waiting;
 use runwords::taking::Run;
-
-fn word_of(place: usize) -> u32
-    requires { place < word_range }
-    ensures { result ≡ place }
-{
-    place as u32
-}
-
-fn alarm_word(alarm: u8) -> u32
-    ensures { (result ≡ alarm) × (result < 256) }
-{
-    alarm as u32
-}
-
-fn yes_word(yes: bool) -> u32
-    ensures { result ≡ yes_word yes }
-{
-    if yes { runwords::YES } else { 0 }
-}
-
-// In two's complement, as in the records of a list.
-fn signed_word(v: i32) -> u32
-    ensures { (result ≡ signed_word v) × (signed_of result ≡ v) }
-{
-    octets::u32_of_bytes(octets::bytes_of_i32(v))
-}
 
 fn motion_tag(m: Motion) -> u32
     ensures { result ≡ tag_of m }
@@ -88,10 +61,10 @@ fn phase_words(phase: Phase) -> [u32; 4]
     match phase {
         Phase::Running => [0, 0, 0, 0],
         Phase::Over(answer) => match answer {
-            Answer::Complete(count) => [runwords::COMPLETE, 0, 0, word_of(count)],
+            Answer::Complete(count) => [runwords::COMPLETE, 0, 0, count as u32],
             Answer::Alarm(alarm, place, count) => {
-                let alarm = alarm_word(alarm);
-                [runwords::STOPPED, alarm, word_of(place), word_of(count)]
+                let alarm = u32::from(alarm);
+                [runwords::STOPPED, alarm, place as u32, count as u32]
             }
         },
     }
@@ -101,8 +74,8 @@ fn frame_words(frame: Frame) -> [u32; 4]
     requires { (frame.program.line < word_range) × (frame.at < word_range) }
     ensures { result ≡ frame_words frame }
 {
-    let line = word_of(frame.program.line);
-    let at = word_of(frame.at);
+    let line = frame.program.line as u32;
+    let at = frame.at as u32;
     [frame.program.number, line, frame.calls_left, at]
 }
 
@@ -110,8 +83,8 @@ fn waiting_words(waiting: Waiting) -> [u32; 4]
     requires { SmallWaiting waiting }
     ensures { result ≡ words_of waiting }
 {
-    let line = word_of(waiting.program.line);
-    let after = word_of(waiting.after);
+    let line = waiting.program.line as u32;
+    let after = waiting.after as u32;
     [waiting.program.number, line, after, waiting.times]
 }
 
@@ -129,24 +102,25 @@ fn put_run(words: &mut [u32], run: Run)
     ensures back { ReadBack run }
 {
     let s = run.state;
-    let count = word_of(run.count);
+    let count = run.count as u32;
     let kept = s.motion;
     let motion = kept_tag(kept);
-    let g96 = yes_word(s.g96);
+    let g96 = u32::from(s.g96);
     put_four(
         words,
         runwords::BLOCKS_LEFT,
         [run.blocks_left, count, motion, g96],
     );
-    let g95 = yes_word(s.g95);
+    let g95 = u32::from(s.g95);
     put_four(
         words,
         runwords::G95,
         [g95, s.shift_group3, s.shift_group5, s.correction],
     );
-    let due = yes_word(s.rapid_due);
-    let x = signed_word(s.x);
-    let z = signed_word(s.z);
+    let due = u32::from(s.rapid_due);
+    // in two's complement, as in the records of a list
+    let x = s.x.cast_unsigned();
+    let z = s.z.cast_unsigned();
     put_four(words, runwords::FEED, [s.f, due, x, z]);
 }
 
@@ -155,15 +129,12 @@ fn put_waiting(words: &mut [u32], waiting: [Waiting; runwords::MOST_WAITING])
     ensures put { Put words.old waiting_from (all_words waiting) words.new }
     ensures many { length waiting ≡ most_calls }
 {
-    let mut k = 0;
-    while k < runwords::MOST_WAITING {
-        let one = waiting[k];
+    for k in 0..runwords::MOST_WAITING {
         put_four(
             words,
             runwords::WAITING + k * runwords::WAITING_WORDS,
-            waiting_words(one),
+            waiting_words(waiting[k]),
         );
-        k += 1;
     }
 }
 
@@ -176,8 +147,8 @@ pub fn put_going(words: &mut [u32], g: Going)
     let frame = g.frame;
     let run = g.run;
     let waiting = g.waiting;
-    let end = word_of(g.end);
-    let filled = word_of(g.filled);
+    let end = g.end as u32;
+    let filled = g.filled as u32;
     put_four(words, runwords::PHASE, phase_words(phase));
     put_ends(words, end, filled);
     put_four(words, runwords::PROGRAM, frame_words(frame));

@@ -3,7 +3,6 @@
 #![tactic(auto)]
 
 ghost use Rattle.std.specs.Prelude.{◌≡◌, ◌<◌, ◌%◌, length};
-ghost use Rattle.octets.specs.Bytes.{signed_of};
 ghost use Rattle.ahead.specs.Ahead.{most_calls};
 ghost use Rattle.runwords.specs.Taken.{going_words, motion_of, phase_of, frame_of, state_of, run_of, waiting_at, waiting_of, going_of};
 
@@ -107,25 +106,13 @@ pub const CHIP_BREAKING: u32 = 10;
 
 pub const REDRAWING: u32 = 11;
 
-fn place_of(word: u32) -> usize
-    ensures { result ≡ word }
-{
-    word as usize
-}
-
 fn alarm_of(word: u32) -> u8
     ensures { result ≡ word % 256 }
 {
     (word % 256) as u8
 }
 
-// In two's complement, as in the records of a list.
-fn signed_of(word: u32) -> i32
-    ensures { result ≡ signed_of word }
-{
-    octets::i32_of_bytes(octets::bytes_of_u32(word))
-}
-
+#[tactic(auto, unfolding(crate::specs::Taken::motion_of))]
 fn motion_of(tag: u32) -> Kept
     ensures { result ≡ motion_of tag }
 {
@@ -145,14 +132,15 @@ fn motion_of(tag: u32) -> Kept
     }
 }
 
+#[tactic(auto, unfolding(crate::specs::Taken::phase_by))]
 pub fn phase_of(words: &[u32]) -> Phase
     requires { length words.now ≡ going_words }
     ensures { result ≡ phase_of words.now }
 {
     let tag = words[PHASE];
     let alarm = alarm_of(words[ALARM]);
-    let place = place_of(words[PLACE]);
-    let count = place_of(words[COUNT]);
+    let place = words[PLACE] as usize;
+    let count = words[COUNT] as usize;
     match tag {
         COMPLETE => Phase::Over(Answer::Complete(count)),
         STOPPED => Phase::Over(Answer::Alarm(alarm, place, count)),
@@ -166,15 +154,17 @@ fn frame_of(words: &[u32]) -> Frame
 {
     let program = ProgramAt {
         number: words[PROGRAM],
-        line: place_of(words[LINE]),
+        line: words[LINE] as usize,
     };
     Frame {
         program,
         calls_left: words[CALLS_LEFT],
-        at: place_of(words[FROM]),
+        at: words[FROM] as usize,
     }
 }
 
+// X and Z in two's complement, as in the records of a list.
+#[tactic(auto, unfolding(octets::specs::Bytes::signed_of))]
 fn state_of(words: &[u32]) -> State
     requires { length words.now ≡ going_words }
     ensures { result ≡ state_of words.now }
@@ -188,8 +178,8 @@ fn state_of(words: &[u32]) -> State
         correction: words[CORRECTION],
         f: words[FEED],
         rapid_due: words[RAPID_DUE] == YES,
-        x: signed_of(words[X]),
-        z: signed_of(words[Z]),
+        x: words[X].cast_signed(),
+        z: words[Z].cast_signed(),
     }
 }
 
@@ -200,7 +190,7 @@ fn run_of(words: &[u32]) -> Run
     Run {
         state: state_of(words),
         blocks_left: words[BLOCKS_LEFT],
-        count: place_of(words[RECORDS]),
+        count: words[RECORDS] as usize,
     }
 }
 
@@ -212,11 +202,11 @@ fn waiting_at(words: &[u32], k: usize) -> Waiting
     let at = WAITING + k * WAITING_WORDS;
     let program = ProgramAt {
         number: words[at],
-        line: place_of(words[at + 1]),
+        line: words[at + 1] as usize,
     };
     Waiting {
         program,
-        after: place_of(words[at + 2]),
+        after: words[at + 2] as usize,
         times: words[at + 3],
     }
 }
@@ -239,6 +229,7 @@ fn waiting_of(words: &[u32]) -> [Waiting; MOST_WAITING]
     ]
 }
 
+#[tactic(auto, unfolding(crate::specs::Taken::going_of))]
 pub fn going_of(words: &[u32]) -> Going
     requires { length words.now ≡ going_words }
     ensures { result ≡ going_of words.now }
@@ -248,7 +239,7 @@ pub fn going_of(words: &[u32]) -> Going
         run: run_of(words),
         waiting: waiting_of(words),
         phase: phase_of(words),
-        end: place_of(words[END]),
-        filled: place_of(words[FILLED]),
+        end: words[END] as usize,
+        filled: words[FILLED] as usize,
     }
 }

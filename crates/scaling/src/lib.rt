@@ -33,18 +33,13 @@ const OVERLAP: u32 = 100;
 
 // "X or U before Z or W is longitudinal, else facing; the order is that of the words that apply". One word of each axis stands there (alarm 9 has seen to it), so that the other
 // place of an axis is 0.
+#[tactic(auto, unfolding(crate::specs::Scaled::is_facing))]
 fn is_facing(b: Block) -> bool
     ensures { result ≡ is_facing b }
 {
-    let x = wide(b.place[block::X]) + wide(b.place[block::U]);
-    let z = wide(b.place[block::Z]) + wide(b.place[block::W]);
+    let x = u32::from(b.place[block::X]) + u32::from(b.place[block::U]);
+    let z = u32::from(b.place[block::Z]) + u32::from(b.place[block::W]);
     z < x
-}
-
-fn wide(n: u8) -> u32
-    ensures { (result ≡ n) × (result < 256) }
-{
-    n as u32
 }
 
 // The D word of an index, 0 where there is none.

@@ -45,13 +45,7 @@ fn table_wrong(table: &[i32]) -> bool
     if table.len() != TABLE_SIZE {
         return true;
     }
-    let mut wrong = false;
-    let mut i = 0;
-    while i < TABLE_SIZE {
-        wrong = wrong | !Position::in_table(table[i]);
-        i += 1;
-    }
-    wrong
+    table.iter().fold(false, |wrong, number| wrong | !Position::in_table(*number))
 }
 
 // Whether the limits of an axis or its start are wrong.
@@ -88,9 +82,7 @@ pub fn settings_wrong(table: &[i32], set: Settings) -> bool
 pub fn with_points(set: Settings, points: bool) -> Settings
     ensures { result ≡ with_points points set }
 {
-    let mut set = set;
-    set.points = points;
-    set
+    Settings { points, ..set }
 }
 
 #[derive(Clone, Copy)]

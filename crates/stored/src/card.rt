@@ -1,53 +1,46 @@
 // The alarm card, which is the page docs/ALARMS.md itself: a tape stands between two lines of three backticks, below lines of settings that begin with `=`, and the listing that it gives
 // between the next two.
-ghost use Rattle.std.specs.Prelude.{◌≤◌, length};
+ghost use Rattle.std.specs.Prelude.{◌+◌, ◌<◌, length, IfSome};
+ghost use Rattle.std.specs.Iterator.{at_most};
 
-// A line of three backticks: where it begins, and where the line behind it begins; both are the page's end where there is none.
-#[derive(Clone, Copy)]
-struct Mark {
-    at: usize,
-    behind: usize,
-}
+use crate::text;
 
-// What stands between two such lines: where it begins and ends, and where the page goes on.
-#[derive(Clone, Copy)]
-pub struct Fence {
-    pub from: usize,
-    pub stop: usize,
-    pub after: usize,
-}
-
-fn mark_from(page: &[u8], from: usize) -> Mark
-    requires { from ≤ length page.now }
-    ensures { (from ≤ result.at) × (result.at ≤ result.behind) × (result.behind ≤ length page.now) }
+// What stands before the next line of three backticks, and what behind it.
+fn split_at_mark(page: &[u8]) -> Option<(&[u8], &[u8])>
+    ensures { IfSome result (λ parts. length parts.0.now + length parts.1.now < length page.now) }
 {
-    let mut p = from;
-    while p < page.len() {
-        let line = tape::line::line_at(page, p);
-        let stop = line.stop;
-        let after = line.after;
-        if crate::text::same(&page[p..stop], b"```") {
-            return Mark {
-                at: p,
-                behind: after,
-            };
+    let mut rest = page;
+    while !rest.is_empty() {
+        let (line, behind) = text::split_line(rest);
+        if text::same(line, b"```") {
+            return Some((&page[..page.len() - rest.len()], behind));
         }
-        p = after;
+        rest = behind;
     }
-    Mark { at: p, behind: p }
+    None
 }
 
-// The next two such lines from a place on.
-pub fn fence_from(page: &[u8], from: usize) -> Fence
-    requires { from ≤ length page.now }
-    ensures { (result.from ≤ result.stop) × (result.stop ≤ result.after) × (result.after ≤ length page.now) }
+// What stands between the next two such lines, and what behind them.
+pub fn fence_from(page: &[u8]) -> Option<(&[u8], &[u8])>
+    ensures { IfSome result (λ parts. length parts.0.now + length parts.1.now < length page.now) }
 {
-    let open = mark_from(page, from);
-    let begins = open.behind;
-    let close = mark_from(page, begins);
-    Fence {
-        from: begins,
-        stop: close.at,
-        after: close.behind,
+    let (_, behind) = split_at_mark(page)?;
+    split_at_mark(behind)
+}
+
+// The pairs of a page, one after the other: a tape with its settings, and its listing.
+#[derive(Clone, Copy)]
+pub struct Pairs<'a>(pub &'a [u8]);
+
+impl<'a> Iterator for Pairs<'a> {
+    type Item = (&'a [u8], &'a [u8]);
+
+    ghost remaining = { λ s. at_most (length s.0.now) };
+
+    fn next(&mut self) -> Option<(&'a [u8], &'a [u8])> {
+        let (case, behind) = fence_from(self.0)?;
+        let (want, behind) = fence_from(behind)?;
+        self.0 = behind;
+        Some((case, want))
     }
 }

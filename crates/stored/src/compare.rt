@@ -1,9 +1,10 @@
 // A listing compared with the one that is wanted, line by line.
 // A line `*N` in the listing that is wanted says that the line before it stands N times more: so a list of thousands of equal records stays short.
-ghost use Rattle.std.specs.Prelude.{◌≤◌, length};
 ghost use Rattle.stored.specs.Texts.{FromOne};
 
+use crate::text;
 use numbers::{Number, NumberForm};
+use std::fmt;
 
 // The first line of the listing that is not as it should be counts from 1. A case whose settings cannot be read compares nothing.
 #[derive(Clone, Copy)]
@@ -13,67 +14,62 @@ pub enum Verdict {
     Unread,
 }
 
-// A line of the listing that is wanted: where it begins and ends, where the next line begins, and how often this one stands yet.
-#[derive(Clone, Copy)]
-struct Wanted {
-    from: usize,
-    stop: usize,
-    after: usize,
-    left: u32,
+impl fmt::Display for Verdict {
+    fn fmt<W: fmt::Write>(&self, f: &mut fmt::Formatter<W>) -> fmt::Result {
+        match self {
+            Verdict::Agrees => write!(f, "agrees"),
+            Verdict::Differs(line) => write!(f, "DIFFERS at line {line}"),
+            Verdict::Unread => write!(f, "HAS NO SETTINGS"),
+        }
+    }
 }
 
-// What stands before the first line.
-fn before_first() -> Wanted
-    ensures { (result.from ≤ result.stop) × (result.stop ≤ 0) × (result.after ≤ 0) }
-{
-    Wanted {
-        from: 0,
-        stop: 0,
-        after: 0,
-        left: 0,
-    }
+// The listing that is wanted: the line that stands, how often it stands yet, and what stands behind it.
+#[derive(Clone, Copy)]
+struct Wanted<'a> {
+    line: &'a [u8],
+    left: u32,
+    behind: &'a [u8],
 }
 
 // How often a line `*N` repeats the one before it, and 0 where the line is another.
 fn repeats(line: &[u8]) -> u32 {
-    if line.len() == 0 {
+    let [b'*', digits @ ..] = line else {
         return 0;
-    }
-    if line[0] != b'*' {
-        return 0;
-    }
-    let number = numbers::read_number(&line[1..], NumberForm::FourDigits);
+    };
+    let number = numbers::read_number(digits, NumberForm::FourDigits);
     match number {
         Number::Value(n, _) => whole::magnitude(n),
         Number::Bad => 0,
     }
 }
 
-// The line behind another.
-fn next_line(want: &[u8], w: Wanted) -> Wanted
-    requires { (w.from ≤ w.stop) × (w.stop ≤ length want.now) × (w.after ≤ length want.now) }
-    ensures { (result.from ≤ result.stop) × (result.stop ≤ length want.now) × (result.after ≤ length want.now) }
-{
-    if w.left > 0 {
-        return Wanted {
-            from: w.from,
-            stop: w.stop,
-            after: w.after,
-            left: w.left - 1,
-        };
+impl<'a> Wanted<'a> {
+    // What is wanted before the first line.
+    fn of(want: &'a [u8]) -> Wanted<'a> {
+        Wanted {
+            line: &[],
+            left: 0,
+            behind: want,
+        }
     }
-    let from = w.after;
-    let line = tape::line::line_at(want, from);
-    let behind = line.after;
-    let second = tape::line::line_at(want, behind);
-    let stop = second.stop;
-    let left = repeats(&want[behind..stop]);
-    let after = if left > 0 { second.after } else { behind };
-    Wanted {
-        from,
-        stop: line.stop,
-        after,
-        left,
+
+    // The next line. Behind the last it is empty.
+    fn next_line(&mut self) -> &'a [u8] {
+        if self.left > 0 {
+            self.left -= 1;
+            return self.line;
+        }
+        let (line, behind) = text::split_line(self.behind);
+        let (second, behind_second) = text::split_line(behind);
+        self.line = line;
+        self.left = repeats(second);
+        self.behind = if self.left > 0 { behind_second } else { behind };
+        line
+    }
+
+    fn is_over(&self) -> bool {
+        self.left == 0 && self.behind.is_empty()
     }
 }
 
@@ -81,23 +77,20 @@ fn next_line(want: &[u8], w: Wanted) -> Wanted
 pub fn compare(made: &[u8], want: &[u8]) -> Verdict
     ensures { FromOne result }
 {
-    let mut w = before_first();
+    let mut wanted = Wanted::of(want);
+    let mut rest = made;
     let mut number = 1;
-    let mut p = 0;
-    while p < made.len() {
-        w = next_line(want, w);
-        let line = tape::line::line_at(made, p);
-        let stop = line.stop;
-        let from = w.from;
-        let to = w.stop;
-        if !crate::text::same(&made[p..stop], &want[from..to]) {
+    while !rest.is_empty() {
+        let (line, behind) = text::split_line(rest);
+        if !text::same(line, wanted.next_line()) {
             return Verdict::Differs(number);
         }
         number += 1;
-        p = line.after;
+        rest = behind;
     }
-    if (w.left > 0) | (w.after < want.len()) {
-        return Verdict::Differs(number);
+    if wanted.is_over() {
+        Verdict::Agrees
+    } else {
+        Verdict::Differs(number)
     }
-    Verdict::Agrees
 }

@@ -1,17 +1,11 @@
 // What a case is run with: the numbers of the table and the settings. They stand in one array, the table's 208 first and then the settings, as 01's
 // `listmoves` has them until a line names another: `=retract 300`, `=empty 2`, `=points 1`, `=offset 3 -1500` for number 3 of the table, `=bytes 24` for the buffer's size, `=numbers 207` for a table cut short, `=held 3` for the entries of the table of places; the first two letters of a word tell it.
-ghost use Rattle.std.specs.Prelude.{◌≡◌, ◌≤◌, length};
+ghost use Rattle.std.specs.Prelude.{◌≡◌, ◌<◌, ◌≤◌, length, IfSome};
 ghost use Rattle.settings.specs.Wrong.{table_size};
 ghost use Rattle.stored.specs.Given.{usual};
 
+use crate::text;
 use numbers::{Number, NumberForm};
-
-// Where the lines end that begin with `=`, and whether each could be read.
-#[derive(Clone, Copy)]
-pub struct Start {
-    pub lawful: bool,
-    pub at: usize,
-}
 
 const TABLE: usize = settings::TABLE_SIZE;
 
@@ -43,11 +37,8 @@ const BYTES: usize = NUMBERS + 1;
 
 const HELD: usize = BYTES + 1;
 
-// How many numbers there are; as a place, that of none of them.
+// How many numbers there are.
 pub const ALL: usize = HELD + 1;
-
-// As a place: the one that a second number of the line names.
-const OFFSET: usize = ALL + 1;
 
 // A table of zeros and the settings of `listmoves`, as the contract holds them to be; its table of places is long enough for every tape, and its buffer has room for every list.
 pub fn usual() -> [i32; ALL]
@@ -73,8 +64,7 @@ pub fn usual() -> [i32; ALL]
 fn at_most(n: u32, most: usize) -> usize
     ensures { result ≤ most }
 {
-    let size = n as usize;
-    if size < most { size } else { most }
+    (n as usize).min(most)
 }
 
 // How many numbers the table has.
@@ -98,117 +88,71 @@ pub fn held_of(given: &[i32; ALL]) -> usize
     at_most(whole::magnitude(given[HELD]), 21_845)
 }
 
-// The place of a number of an axis by the second letter of its word: its start, its lowest limit or its highest.
-fn axis_place(second: u8, start: usize, lowest: usize, highest: usize) -> usize {
-    match second {
-        b' ' => start,
-        b'l' => lowest,
-        b'h' => highest,
-        _ => ALL,
+// The place of the number that a word names, by its first two letters.
+fn place_of(word: &[u8]) -> Option<usize>
+    ensures { IfSome result (λ place. place < ALL) }
+{
+    match word {
+        [b'm', ..] => Some(MAIN),
+        [b'l', ..] => Some(LOWEST),
+        [b'r', ..] => Some(RETRACT),
+        [b'x'] => Some(X),
+        [b'x', b'l', ..] => Some(X_LOW),
+        [b'x', b'h', ..] => Some(X_HIGH),
+        [b'z'] => Some(Z),
+        [b'z', b'l', ..] => Some(Z_LOW),
+        [b'z', b'h', ..] => Some(Z_HIGH),
+        [b'e', ..] => Some(EMPTY),
+        [b'p', ..] => Some(POINTS),
+        [b'n', ..] => Some(NUMBERS),
+        [b'b', ..] => Some(BYTES),
+        [b'h', ..] => Some(HELD),
+        _ => None,
     }
 }
 
-// The place of the number that a word names, by its first two letters.
-fn place_of(first: u8, second: u8) -> usize {
-    match first {
-        b'm' => MAIN,
-        b'l' => LOWEST,
-        b'r' => RETRACT,
-        b'x' => axis_place(second, X, X_LOW, X_HIGH),
-        b'z' => axis_place(second, Z, Z_LOW, Z_HIGH),
-        b'e' => EMPTY,
-        b'p' => POINTS,
-        b'n' => NUMBERS,
-        b'b' => BYTES,
-        b'h' => HELD,
-        b'o' => OFFSET,
-        _ => ALL,
+// The number that digits say.
+fn number_of(digits: &[u8], form: NumberForm) -> Option<i32> {
+    let number = numbers::read_number(digits, form);
+    match number {
+        Number::Value(n, _) => Some(n),
+        Number::Bad => None,
     }
 }
 
 // The place of a number of the table, which counts from 1.
-fn table_place(digits: &[u8]) -> usize {
-    let number = numbers::read_number(digits, NumberForm::FourDigits);
-    let Number::Value(n, _) = number else {
-        return ALL;
-    };
-    let k = whole::magnitude(n) as usize;
-    if k == 0 {
-        return ALL;
-    }
-    if k > TABLE {
-        return ALL;
-    }
-    k - 1
-}
-
-// Puts a number at its place, and answers whether there is such a number and such a place.
-fn set_number(given: &mut [i32; ALL], place: usize, digits: &[u8]) -> bool {
-    let number = numbers::read_number(digits, NumberForm::Path);
-    let Number::Value(n, _) = number else {
-        return false;
-    };
-    if place >= ALL {
-        return false;
-    }
-    given[place] = n;
-    true
-}
-
-// Reads what stands behind `=offset `: the number's place in the table, a space, and the number.
-fn set_offset(given: &mut [i32; ALL], line: &[u8]) -> bool {
-    let gap = crate::text::find(line, 0, b' ');
-    if gap >= line.len() {
-        return false;
-    }
-    let place = table_place(&line[0..gap]);
-    let from = gap + 1;
-    set_number(given, place, &line[from..])
-}
-
-// Reads a line behind its `=`, and answers whether it names a number.
-fn set_line(given: &mut [i32; ALL], line: &[u8]) -> bool {
-    if line.len() < 3 {
-        return false;
-    }
-    let gap = crate::text::find(line, 1, b' ');
-    if gap >= line.len() {
-        return false;
-    }
-    let place = place_of(line[1], line[2]);
-    let from = gap + 1;
-    if place == OFFSET {
-        return set_offset(given, &line[from..]);
-    }
-    set_number(given, place, &line[from..])
-}
-
-// Reads the lines from `from` on that begin with `=`.
-pub fn read_given(text: &[u8], from: usize, given: &mut [i32; ALL]) -> Start
-    requires { from ≤ length text.now }
-    ensures { result.at ≤ length text.now }
+fn table_place(digits: &[u8]) -> Option<usize>
+    ensures { IfSome result (λ place. place < table_size) }
 {
-    let mut p = from;
-    while p < text.len() {
-        if text[p] != b'=' {
-            return Start {
-                lawful: true,
-                at: p,
-            };
-        }
-        let line = tape::line::line_at(text, p);
-        let stop = line.stop;
-        let after = line.after;
-        if !set_line(given, &text[p..stop]) {
-            return Start {
-                lawful: false,
-                at: after,
-            };
-        }
-        p = after;
+    let n = number_of(digits, NumberForm::FourDigits)?;
+    let place = (whole::magnitude(n) as usize).checked_sub(1)?;
+    if place < TABLE { Some(place) } else { None }
+}
+
+// What a line says behind its `=`: the place of the number that it names, and the number. Behind `offset ` stand the number's place in the table, a space, and the number.
+fn setting_of(line: &[u8]) -> Option<(usize, i32)>
+    ensures { IfSome result (λ setting. setting.0 < ALL) }
+{
+    let (word, digits) = text::split_once(line, b' ')?;
+    if let [b'o', ..] = word {
+        let (place, digits) = text::split_once(digits, b' ')?;
+        return Some((table_place(place)?, number_of(digits, NumberForm::Path)?));
     }
-    Start {
-        lawful: true,
-        at: p,
+    Some((place_of(word)?, number_of(digits, NumberForm::Path)?))
+}
+
+// Reads the lines at the front of a text that begin with `=`, and answers what stands behind them: nothing where one of them cannot be read.
+pub fn read_given<'a>(text: &'a [u8], given: &mut [i32; ALL]) -> Option<&'a [u8]>
+    ensures { IfSome result (λ rest. length rest.now ≤ length text.now) }
+{
+    let mut rest = text;
+    loop {
+        let (line, behind) = text::split_line(rest);
+        let [b'=', setting @ ..] = line else {
+            return Some(rest);
+        };
+        let (place, number) = setting_of(setting)?;
+        given[place] = number;
+        rest = behind;
     }
 }

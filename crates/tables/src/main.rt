@@ -6,8 +6,8 @@
 
 use comparing::answers::Answer;
 use comparing::{board, listing};
-use std::io;
 use std::io::{Read, Write};
+use std::{fmt, io};
 use stored::compare::Verdict;
 use stored::given::ALL;
 
@@ -36,37 +36,35 @@ fn came(number: usize) -> u64 {
 }
 
 fn fill(places: &mut [u64]) {
-    let mut i = 0;
-    while i < places.len() {
-        places[i] = came(i);
-        i += 1;
+    for (number, entry) in places.iter_mut().enumerate() {
+        *entry = came(number);
     }
 }
 
-fn show_entry<W: Write>(out: &mut W, entry: u64) -> io::Result<()> {
-    let program = entry / 4_294_967_296;
-    let slot = entry / 65_536 % 65_536;
-    let place = entry % 65_536;
-    write!(out, "{program}/{slot}/{place}")
-}
+// An entry, which prints as program/slot/place.
+#[derive(Clone, Copy)]
+struct Entry(u64);
 
-// An entry, or that it is as it came.
-fn show_place<W: Write>(out: &mut W, entry: u64, number: usize) -> io::Result<()> {
-    if entry == came(number) {
-        return out.write_all(b"= ");
+impl fmt::Display for Entry {
+    fn fmt<W: fmt::Write>(&self, f: &mut fmt::Formatter<W>) -> fmt::Result {
+        let entry = self.0;
+        let program = entry / 4_294_967_296;
+        let slot = entry / 65_536 % 65_536;
+        let place = entry % 65_536;
+        write!(f, "{program}/{slot}/{place}")
     }
-    show_entry(out, entry)?;
-    out.write_all(b" ")
 }
 
+// Each entry, or that it is as it came.
 fn show_entries<W: Write>(out: &mut W, places: &[u64]) -> io::Result<()> {
-    let mut i = 0;
-    while i < places.len() {
-        let entry = places[i];
-        show_place(out, entry, i)?;
-        i += 1;
+    for (number, entry) in places.iter().enumerate() {
+        if *entry == came(number) {
+            write!(out, "= ")?;
+        } else {
+            write!(out, "{} ", Entry(*entry))?;
+        }
     }
-    out.write_all(b"\n")
+    writeln!(out)
 }
 
 fn listing_text() -> [u8; TEXT] {
@@ -79,75 +77,42 @@ fn show_listing<W: Write>(out: &mut W, answer: Answer, list: &[u8]) -> io::Resul
     out.write_all(&text[..n])
 }
 
-// Nothing is to be said where the moves are those of the list.
-fn show_moves<W: Write>(out: &mut W, verdict: Verdict) -> io::Result<()> {
-    let Verdict::Differs(line) = verdict else {
-        return Ok(());
-    };
-    writeln!(out, "ITS MOVES DIFFER at line {line}")
-}
-
-// Runs a tape through the door and shows what came of it.
-fn show_lent<W: Write>(
-    out: &mut W,
-    tape: &[u8],
-    table: &[i32],
-    settings: &[i32],
-    places: &mut [u64],
-    buf: &mut [u8],
-) -> io::Result<()> {
-    fill(places);
-    let packed = board::tm02_interpret(tape, table, settings, places, buf);
-    show_listing(out, comparing::unpacked(packed), buf)?;
-    show_entries(out, places)?;
-    let verdict = comparing::asked::judge_moves(tape, table, settings, places);
-    show_moves(out, verdict)
-}
-
-// Lends the tape the table, the table of places and the buffer that its case asks for, and no number and no byte more.
+// Runs a tape through the door and shows what came of it. It is lent the table, the table of places and the buffer that its case asks for, and no number and no byte more.
+// Nothing is said of its moves where they are those of the list.
 fn show_run<W: Write>(out: &mut W, tape: &[u8], given: [i32; ALL]) -> io::Result<()> {
     let mut space = [0u8; SPACE];
-    let mut places = [0u64; PLACES];
-    let numbers = stored::given::numbers_of(&given);
-    let bytes = stored::given::bytes_of(&given);
-    let held = stored::given::held_of(&given);
+    let mut entries = [0u64; PLACES];
     let settings = comparing::settings_of(&given);
-    show_lent(
-        out,
-        tape,
-        &given[..numbers],
-        &settings,
-        &mut places[..held],
-        &mut space[..bytes],
-    )
+    let table = &given[..stored::given::numbers_of(&given)];
+    let places = &mut entries[..stored::given::held_of(&given)];
+    let buf = &mut space[..stored::given::bytes_of(&given)];
+    fill(places);
+    let packed = board::tm02_interpret(tape, table, &settings, places, buf);
+    show_listing(out, comparing::unpacked(packed), buf)?;
+    show_entries(out, places)?;
+    let verdict = comparing::asked::judge_moves(tape, table, &settings, places);
+    if let Verdict::Differs(line) = verdict {
+        writeln!(out, "ITS MOVES DIFFER at line {line}")?;
+    }
+    Ok(())
 }
 
 // Takes a case apart.
 fn show_case<W: Write>(out: &mut W, case: &[u8]) -> io::Result<()> {
-    let first = tape::line::line_at(case, 0);
-    let name = first.stop;
-    let from = first.after;
-    out.write_all(&case[0..name])?;
-    out.write_all(b"\n")?;
+    let (name, rest) = stored::text::split_line(case);
+    out.write_all(name)?;
+    writeln!(out)?;
     let mut given = stored::given::usual();
-    let start = stored::given::read_given(case, from, &mut given);
-    if !start.lawful {
-        return writeln!(out, "HAS NO SETTINGS");
+    match stored::given::read_given(rest, &mut given) {
+        Some(tape) => show_run(out, tape, given),
+        None => writeln!(out, "{}", Verdict::Unread),
     }
-    let at = start.at;
-    show_run(out, &case[at..], given)
 }
 
 // One case after the other.
 fn show_cases<W: Write>(out: &mut W, all: &[u8]) -> io::Result<()> {
-    let mut p = 0;
-    while p < all.len() {
-        let end = stored::text::find(all, p, MARK);
-        show_case(out, &all[p..end])?;
-        if end >= all.len() {
-            return Ok(());
-        }
-        p = end + 1;
+    for case in all.split_inclusive(|byte| *byte == MARK) {
+        show_case(out, case.strip_suffix(&[MARK]).unwrap_or(case))?;
     }
     Ok(())
 }

@@ -1,57 +1,52 @@
--- Laws of `seek_from`, the scan for the first byte that passes a test, for any test: at the end, at a byte that passes, at one that does not, and its bounds.
+-- Laws of `seek_from`, the scan for the first byte that passes a test, for any test: what `position` answers, the step past bytes that do not pass, and its bounds. And of a stretch that holds neither of two bytes.
 -- Assumes nothing.
-use Prim.Native.Nat.{ℕ, zero, suc, ◌+◌, ◌<◌, ◌≤◌}
+use Prim.Native.Nat.{ℕ, zero, suc, ◌+◌, ◌-◌, ◌<◌, ◌≤◌}
 use mathlib.Core.Bool.{Bool, true, false, cond, ◌||◌}
 use mathlib.Core.List.{List, [], ◌∷◌}
-use mathlib.Core.Path.{◌≡◌, refl, ap, ◌∙◌, subst}
+use mathlib.Core.Path.{◌≡◌, refl, sym, ap, ◌∙◌, subst}
 use native.Mathlib.Nat.{add-zero}
 use native.Mathlib.Numerals.{add-one}
 use native.Mathlib.Omega.{arith}
-use borrow.Author.Tests.{ltb-true, ltb-false, eqb-false}
+use borrow.Author.Tests.{ltb-false, eqb-false}
 use lib.Dec.{T, eqb, ltb}
 use lib.ListN.{length, drop, get_or, drop_of_length-le, length-drop}
 use lib.Seq.{drop-cons}
+use Rattle.std.proofs.Common.{Option, Some, None, unwrap_or, fold}
+use Rattle.std.specs.List.{between, position_or_len}
+use Rattle.std.proofs.lemmas.List.Edits.{get_or-between, length-between}
+use Rattle.std.proofs.lemmas.List.Recursion.{is_position_or_len}
 use Rattle.tape.specs.Lines.{seek, seek_from, Neither}
 
 or_false : (a b : Bool) → (a || b) ≡ false → (a ≡ false) × (b ≡ false)
 or_false true b e = absurd (subst T e tt)
 or_false false b e = (refl, e)
 
--- ---- neither of two bytes: in no stretch, one byte further, and one stretch further
-module _ (s : List ℕ) (one other : ℕ) where
-  pub neither_here : (i : ℕ) → Neither s one other i i
-  neither_here i k l h = absurd (omega (arith, l, h))
+-- whether one of two bytes stands in a list, as a fold over all of it
+module _ (one other : ℕ) where
+  abbrev pub or_either : Bool → ℕ → Bool
+  or_either found b = found || (eqb b one || eqb b other)
 
-  pub neither_next : (found : Bool) (i k : ℕ) → (found ≡ false → Neither s one other i (i + k))
-      → (found || (eqb (get_or s (i + k) 0) one || eqb (get_or s (i + k) 0) other)) ≡ false → Neither s one other i (i + (k + 1))
-  neither_next found i k f e j l h =
-      let here = or_false found (eqb (get_or s (i + k) 0) one || eqb (get_or s (i + k) 0) other) e in
-      by here (or_false (eqb (get_or s (i + k) 0) one) (eqb (get_or s (i + k) 0) other) here.1) (ltb j (i + k)) refl
+  none_of : (xs : List ℕ) (found : Bool) → fold or_either found xs ≡ false → (found ≡ false) × Neither xs one other 0 (length xs)
+  none_of [] found e = (e, λ k l h. absurd (omega (arith, h)))
+  none_of (b ∷ xs) found e =
+      let rest = none_of xs (or_either found b) e in
+      let here = or_false found (eqb b one || eqb b other) rest.0 in
+      (here.0, λ k l h. at (or_false (eqb b one) (eqb b other) here.1) rest.1 k h)
     where
-      by : (found ≡ false) × ((eqb (get_or s (i + k) 0) one || eqb (get_or s (i + k) 0) other) ≡ false) → (eqb (get_or s (i + k) 0) one ≡ false) × (eqb (get_or s (i + k) 0) other ≡ false)
-          → (t : Bool) → ltb j (i + k) ≡ t → (get_or s j 0 ≡ one → ⊥) × (get_or s j 0 ≡ other → ⊥)
-      by a b true p = f a.0 j l (ltb-true j (i + k) p)
-      by a b false p =
-          let same : j ≡ i + k = omega (arith, ltb-false j (i + k) p, h) in
-          rw same (eqb-false _ _ b.0, eqb-false _ _ b.1)
+      at : (eqb b one ≡ false) × (eqb b other ≡ false) → Neither xs one other 0 (length xs) → (k : ℕ) → k < length (b ∷ xs) → (get_or (b ∷ xs) k 0 ≡ one → ⊥) × (get_or (b ∷ xs) k 0 ≡ other → ⊥)
+      at a f zero h = (eqb-false _ _ a.0, eqb-false _ _ a.1)
+      at a f (suc k) h = f k (omega arith) (omega (arith, h))
 
-  pub neither_on : (i m j : ℕ) → Neither s one other i m → Neither s one other m j → Neither s one other i j
-  neither_on i m j f g k l h = by (ltb k m) refl
-    where
-      by : (t : Bool) → ltb k m ≡ t → (get_or s k 0 ≡ one → ⊥) × (get_or s k 0 ≡ other → ⊥)
-      by true p = f k l (ltb-true k m p)
-      by false p = g k (ltb-false k m p) h
+  pub neither_of : (s : List ℕ) (from n : ℕ) → from + n ≤ length s → fold or_either false (between from (from + n) s) ≡ false → Neither s one other from (from + n)
+  neither_of s from n r e k l h =
+      let part = between from (from + n) s in
+      let long : length part ≡ n = omega (arith, length-between s from (from + n) r) in
+      let here = (none_of part false e).1 (k - from) (omega arith) (omega (arith, long, h)) in
+      let there : get_or part (k - from) 0 ≡ get_or s k 0 = get_or-between s from (from + n) (k - from) 0 (omega arith) ∙ ap (λ (x : ℕ). get_or s x 0) (omega arith) in
+      (λ z. here.0 (there ∙ z), λ z. here.1 (there ∙ z))
 
 module _ (t : ℕ → Bool) where
-  seek_hit : (b : ℕ) (s : List ℕ) → t b ≡ true → seek t (b ∷ s) ≡ 0
-  unfolding seek
-  seek_hit b s e = rw e
-
-  seek_more : (b : ℕ) (s : List ℕ) → t b ≡ false → seek t (b ∷ s) ≡ suc (seek t s)
-  unfolding seek
-  seek_more b s e = rw e
-
-  seek_within : (s : List ℕ) → seek t s ≤ length s
+  pub seek_within : (s : List ℕ) → seek t s ≤ length s
   unfolding seek
   seek_within [] = omega arith
   seek_within (b ∷ s) = go (t b) (seek_within s)
@@ -59,6 +54,30 @@ module _ (t : ℕ → Bool) where
       go : (u : Bool) → seek t s ≤ length s → cond u 0 (suc (seek t s)) ≤ suc (length s)
       go true h = omega arith
       go false h = omega arith
+
+  seek_position : (s : List ℕ) → seek t s ≡ position_or_len t s
+  unfolding seek
+  seek_position s = is_position_or_len (seek t) t refl (λ x xs. ap (cond (t x) 0) (omega arith)) s
+
+  -- where `position` finds the first byte that passes, or nothing
+  pub sought : (s : List ℕ) (r : Option ℕ) → r ≡ cond (ltb (position_or_len t s) (length s)) (Some (position_or_len t s)) None → unwrap_or r (length s) ≡ seek t s
+  sought s r e = by (ltb (position_or_len t s) (length s)) refl e
+    where
+      same : seek t s ≡ position_or_len t s
+      same = seek_position s
+
+      by : (u : Bool) → ltb (position_or_len t s) (length s) ≡ u → r ≡ cond u (Some (position_or_len t s)) None → unwrap_or r (length s) ≡ seek t s
+      by true p q = ap (λ (x : Option ℕ). unwrap_or x (length s)) q ∙ sym same
+      by false p q =
+          ap (λ (x : Option ℕ). unwrap_or x (length s)) q ∙ omega (arith, same, ltb-false _ _ p, seek_within s)
+
+  seek_hit : (b : ℕ) (s : List ℕ) → t b ≡ true → seek t (b ∷ s) ≡ 0
+  unfolding seek
+  seek_hit b s e = rw e
+
+  seek_more : (b : ℕ) (s : List ℕ) → t b ≡ false → seek t (b ∷ s) ≡ suc (seek t s)
+  unfolding seek
+  seek_more b s e = rw e
 
   module _ (s : List ℕ) (i : ℕ) where
     pub scan_end : length s ≤ i → seek_from t s i ≡ i

@@ -21,18 +21,9 @@ pub enum Gap {
 pub fn first_line(tape: &[u8]) -> usize
     ensures { (result ≡ seek_from opens_tape tape.now 0) × (result ≤ length tape.now) }
 {
-    let mut i = 0;
-    let r = loop {
-        if i >= tape.len() {
-            break i;
-        }
-        let b = tape[i];
-        if (b == b'%') | ((b == b'O') | (b == b'o')) {
-            break i;
-        }
-        i += 1;
-    };
-    r
+    tape.iter()
+        .position(|byte| matches!(*byte, b'%' | b'O' | b'o'))
+        .unwrap_or(tape.len())
 }
 
 // How many bytes are looked at together.
@@ -43,14 +34,10 @@ fn has_either(bytes: &[u8], from: usize, one: u8, other: u8) -> bool
     requires { from + stretch ≤ length bytes.now }
     ensures { result ≡ false → Neither bytes.now one other from (from + stretch) }
 {
-    let mut found = false;
-    let mut k: usize = 0;
-    while k < STRETCH {
-        let b = bytes[from + k];
-        found = found | ((b == one) | (b == other));
-        k += 1;
-    }
-    found
+    bytes[from..from + STRETCH].iter().fold(
+        false,
+        |found, byte| found | ((*byte == one) | (*byte == other)),
+    )
 }
 
 // Past the stretches from `from` on that hold neither of two bytes.
@@ -59,16 +46,10 @@ fn pass_stretches(bytes: &[u8], from: usize, one: u8, other: u8) -> usize
     ensures { (from ≤ result) × (result ≤ length bytes.now) × Neither bytes.now one other from result }
 {
     let mut i = from;
-    let r = loop {
-        if bytes.len() - i < STRETCH {
-            break i;
-        }
-        if has_either(bytes, i, one, other) {
-            break i;
-        }
+    while STRETCH <= bytes.len() - i && !has_either(bytes, i, one, other) {
         i += STRETCH;
-    };
-    r
+    }
+    i
 }
 
 // The place of the first LF from `from` on, or the tape's length.
@@ -76,17 +57,13 @@ fn find_line_feed(tape: &[u8], from: usize) -> usize
     requires { from ≤ length tape.now }
     ensures { (result ≡ seek_from is_line_feed tape.now from) × (from ≤ result) × (result ≤ length tape.now) }
 {
-    let mut i = pass_stretches(tape, from, b'\n', b'\n');
-    let r = loop {
-        if i >= tape.len() {
-            break i;
-        }
+    let near = pass_stretches(tape, from, b'\n', b'\n');
+    for i in near..tape.len() {
         if tape[i] == b'\n' {
-            break i;
+            return i;
         }
-        i += 1;
-    };
-    r
+    }
+    tape.len()
 }
 
 // The line that begins at `from`.
@@ -124,21 +101,17 @@ fn skip_comment(line: &[u8], from: usize) -> Gap
     requires { from ≤ length line.now }
     ensures { Closed result line.now from }
 {
-    let mut i = pass_stretches(line, from, b')', b'\r');
-    let r = loop {
-        if i >= line.len() {
-            break Gap::Fault;
+    let near = pass_stretches(line, from, b')', b'\r');
+    for i in near..line.len() {
+        let byte = line[i];
+        if byte == b'\r' {
+            return Gap::Fault;
         }
-        let b = line[i];
-        if b == b'\r' {
-            break Gap::Fault;
+        if byte == b')' {
+            return Gap::At(i + 1);
         }
-        i += 1;
-        if b == b')' {
-            break Gap::At(i);
-        }
-    };
-    r
+    }
+    Gap::Fault
 }
 
 // Past the spaces and comments that stand from `from` on.
@@ -147,25 +120,15 @@ pub fn skip_gap(line: &[u8], from: usize) -> Gap
     ensures { (result ≡ gap_of false from (drop from line.now)) × GapIn result from (length line.now) }
 {
     let mut i = from;
-    loop {
-        if i >= line.len() {
-            return Gap::At(i);
-        }
-        let b = line[i];
-        if b == b'(' {
-            let behind = skip_comment(line, i + 1);
-            match behind {
-                Gap::Fault => {
-                    return Gap::Fault;
-                }
-                Gap::At(p) => {
-                    i = p;
-                }
-            }
-        } else if b == b' ' {
-            i += 1;
-        } else {
-            return Gap::At(i);
+    while i < line.len() {
+        match line[i] {
+            b'(' => match skip_comment(line, i + 1) {
+                Gap::Fault => return Gap::Fault,
+                Gap::At(behind) => i = behind,
+            },
+            b' ' => i += 1,
+            _ => return Gap::At(i),
         }
     }
+    Gap::At(i)
 }

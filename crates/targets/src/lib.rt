@@ -33,13 +33,8 @@ fn pair_of(table: &[i32], i: usize) -> Pair
     }
 }
 
-fn wide(n: u32) -> usize
-    ensures { result ≡ n }
-{
-    n as usize
-}
-
 // The pair number of a tool correction.
+#[tactic(auto, unfolding(crate::specs::Target::correction_pair))]
 fn correction_pair(correction: u32) -> usize
     requires { correction ≤ 99 }
     ensures { result ≡ correction_pair correction }
@@ -47,7 +42,7 @@ fn correction_pair(correction: u32) -> usize
     if correction == 0 {
         return 0;
     }
-    wide(correction) + 5
+    correction as usize + 5
 }
 
 // The offset in force.
@@ -55,8 +50,8 @@ pub fn offset_of(table: &[i32], s: State) -> Pair
     requires { Table table.now × Numbers s }
     ensures { result ≡ offset_of table.now s }
 {
-    let first = pair_of(table, wide(s.shift_group3));
-    let second = pair_of(table, wide(s.shift_group5));
+    let first = pair_of(table, s.shift_group3 as usize);
+    let second = pair_of(table, s.shift_group5 as usize);
     let tool = pair_of(table, correction_pair(s.correction));
     let x = first.x + second.x + tool.x;
     let z = first.z + second.z + tool.z;

@@ -5,10 +5,8 @@ ghost use Rattle.threadable.specs.Ends.{only_last, deepest, Rising};
 
 use cuts::{Cuts, Falling};
 
-// The first number that 32 bits do not hold, and the last one of 64.
+// The first number that 32 bits do not hold.
 const BEYOND_32: u64 = 4_294_967_296;
-
-const GREATEST_64: u64 = 18_446_744_073_709_551_615;
 
 // Whether what falling cuts add up to fits. A quotient asks it, so that no product and no sum is made that could wrap.
 fn squares_fit(f: Falling) -> bool
@@ -18,7 +16,7 @@ fn squares_fit(f: Falling) -> bool
     if f.square == 0 {
         return true;
     }
-    (f.left as u64) <= (GREATEST_64 - f.sum) / f.square
+    u64::from(f.left) <= (u64::MAX - f.sum) / f.square
 }
 
 // Whether what the cuts add up to fits, so that each of them can be asked for.
@@ -27,7 +25,7 @@ pub fn sum_fits(depth: u32, c: Cuts) -> bool
     ensures all { Sound depth c → result ≡ true }
 {
     match c {
-        Cuts::Even(p) => totals::total(p) < BEYOND_32 - (depth as u64),
+        Cuts::Even(p) => totals::total(p) < BEYOND_32 - u64::from(depth),
         Cuts::ByDepth(f) => squares_fit(f),
         Cuts::ByNumber(f) => (f.d3 > 0) & squares_fit(f),
     }
@@ -47,17 +45,15 @@ pub fn is_rising(depth: u32, c: Cuts) -> bool
 }
 
 // Falling cuts with the last of them alone left.
+#[tactic(auto, using(crate::proofs::Endings::others_fit))]
 fn only_last(f: Falling) -> Falling
     requires { Summed f × (0 < f.left) }
     ensures { result ≡ only_last f }
 {
-    let before = (f.left - 1) as u64;
     Falling {
-        d3: f.d3,
-        d6: f.d6,
-        square: f.square,
-        sum: f.sum + before * f.square,
+        sum: f.sum + u64::from(f.left - 1) * f.square,
         left: 1,
+        ..f
     }
 }
 

@@ -29,8 +29,8 @@ use Rattle.depths.proofs.Kept.{row_rises}
 use Rattle.cuts.proofs.Opened as cut_laws
 use Rattle.threading.specs.declared.Thread.{Thread}
 use Rattle.threading.specs.declared.Pass.{Pass}
-use Rattle.threads.specs.declared.Stage.{Stage}
-use Rattle.threads.specs.declared.Stage.TheVariants.{In, Cut, Out, Back}
+use Rattle.axes.specs.declared.Stage.{Stage}
+use Rattle.axes.specs.declared.Stage.TheVariants.{In, Cut, Out, Back}
 use Rattle.threads.specs.declared.Cursor.{Cursor}
 use Rattle.threading.specs.Threading.{wide, crest, wrong, pass_for, pass_on, passes, repeated, threading, Told}
 use Rattle.threads.specs.Cursor.{cuts_left, crest_of, line_of, rest_at, rest_of, over_at, over, at, Sound, Makes}

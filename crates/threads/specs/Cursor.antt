@@ -5,12 +5,12 @@ use Rattle.std.proofs.Common.{SFits}
 use Rattle.whole.specs.Signed.{along}
 use Rattle.moves.specs.declared.Record.{Record}
 use Rattle.axes.specs.Goes.{rapid_to, thread_to}
+use Rattle.axes.specs.declared.Stage.{Stage}
+use Rattle.axes.specs.declared.Stage.TheVariants.{In, Cut, Out, Back}
 use Rattle.depths.specs.Depths.{greatest_d}
 use Rattle.depths.specs.Promised.{Rises}
 use Rattle.cuts.specs.Cuts as cut
 use Rattle.threading.specs.Threading.{wide, passes, repeated}
-use Rattle.threads.specs.declared.Stage.{Stage}
-use Rattle.threads.specs.declared.Stage.TheVariants.{In, Cut, Out, Back}
 use Rattle.threads.specs.declared.Cursor.{Cursor}
 
 -- ---- the records that are left

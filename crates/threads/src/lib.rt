@@ -3,24 +3,16 @@
 #![tactic(auto)]
 
 ghost use Rattle.std.specs.Prelude.{◌≡◌, true, false, ◌<◌};
+ghost use Rattle.axes.specs.declared.Stage.TheVariants.{In, Cut, Out, Back};
 ghost use Rattle.cuts.specs.Cuts as cut;
 ghost use Rattle.threading.specs.Threading.{wrong, threading, Told};
-ghost use Rattle.threads.specs.declared.Stage.TheVariants.{In, Cut, Out, Back};
 ghost use Rattle.threads.specs.Cursor.{rest_of, over, at, Sound, Makes};
 
+use axes::Stage;
 use cuts::Cuts;
-use moves::Record;
+use moves::{Handed, Record};
 use threading::{Pass, Thread};
 use whole::Side;
-
-// Which record of a pass comes next. 02: "A pass is rapid in, thread, rapid out, rapid back."
-#[derive(Clone, Copy)]
-pub enum Stage {
-    In,
-    Cut,
-    Out,
-    Back,
-}
 
 // `line` and `depth` are those of the present pass, and before the first pass those of the crest; `cuts` and `empty` cuts are left behind it.
 #[derive(Clone, Copy)]
@@ -32,12 +24,6 @@ pub struct Cursor {
     pub cuts: Cuts,
     pub empty: u32,
     pub stage: Stage,
-}
-
-#[derive(Clone, Copy)]
-pub struct Handed {
-    pub record: Record,
-    pub rest: Cursor,
 }
 
 // A cycle before its first record. Alarm 19 was asked before.
@@ -77,7 +63,7 @@ pub fn is_over(c: Cursor) -> bool
 }
 
 // The next record, and what is left behind it.
-pub fn next(c: Cursor) -> Handed
+pub fn next(c: Cursor) -> Handed<Cursor>
     requires { Sound c × (over c ≡ false) }
     ensures { Makes c result.record result.rest }
 {
@@ -109,7 +95,7 @@ fn at_stage(c: Cursor, stage: Stage) -> Cursor
 }
 
 // "rapid in": to the line of the next cut, or, where none is left, to the same line again.
-fn go_in(c: Cursor) -> Handed
+fn go_in(c: Cursor) -> Handed<Cursor>
     requires { Sound c × (c.stage ≡ In) × (over c ≡ false) }
     ensures { Makes c result.record result.rest }
 {
@@ -121,7 +107,7 @@ fn go_in(c: Cursor) -> Handed
 }
 
 // "Empty cuts repeat the last pass".
-fn go_in_again(c: Cursor) -> Handed
+fn go_in_again(c: Cursor) -> Handed<Cursor>
     requires { Sound c × (c.stage ≡ In) × (cut.over c.cuts ≡ true) × (0 < c.empty) }
     ensures { Makes c result.record result.rest }
 {
@@ -142,7 +128,7 @@ fn go_in_again(c: Cursor) -> Handed
 }
 
 // The line of the next cut: the line before it, and what the cut takes.
-fn go_deeper(c: Cursor) -> Handed
+fn go_deeper(c: Cursor) -> Handed<Cursor>
     requires { Sound c × (c.stage ≡ In) × (cut.over c.cuts ≡ false) }
     ensures { Makes c result.record result.rest }
 {
@@ -168,7 +154,7 @@ fn go_deeper(c: Cursor) -> Handed
 }
 
 // "thread"
-fn cut(c: Cursor) -> Handed
+fn cut(c: Cursor) -> Handed<Cursor>
     requires { Sound c × (c.stage ≡ Cut) }
     ensures { Makes c result.record result.rest }
 {
@@ -179,7 +165,7 @@ fn cut(c: Cursor) -> Handed
 }
 
 // "rapid out"
-fn go_out(c: Cursor) -> Handed
+fn go_out(c: Cursor) -> Handed<Cursor>
     requires { Sound c × (c.stage ≡ Out) }
     ensures { Makes c result.record result.rest }
 {
@@ -190,7 +176,7 @@ fn go_out(c: Cursor) -> Handed
 }
 
 // "rapid back"
-fn go_back(c: Cursor) -> Handed
+fn go_back(c: Cursor) -> Handed<Cursor>
     requires { Sound c × (c.stage ≡ Back) }
     ensures { Makes c result.record result.rest }
 {

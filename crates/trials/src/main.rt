@@ -3,13 +3,12 @@
 #![tactic(auto)]
 
 ghost use Rattle.std.specs.Prelude.{◌+◌, ◌≤◌, length};
-ghost use Rattle.moves.specs.Form.{header_size, record_start, record_size};
+ghost use Rattle.moves.specs.Form.{header_size, record_size, record_start};
 
 use numbers::{Number, NumberForm};
 use requests::Request;
-use std::io;
 use std::io::{Read, Write};
-use trying::{Came, Tried};
+use std::{fmt, io};
 
 // The most bytes of standard input that are read.
 const MOST_BYTES: u64 = 65_536;
@@ -23,82 +22,73 @@ const MOST_ROOM: u32 = 64;
 // Room for so many.
 const ROOM: usize = moves::HEADER_SIZE + moves::RECORD_SIZE * (MOST_ROOM as usize);
 
-fn four_at(buf: &[u8], at: usize) -> [u8; 4]
-    requires { at + 4 ≤ length buf.now }
-{
-    [buf[at], buf[at + 1], buf[at + 2], buf[at + 3]]
+// A record as it stands in a list. It prints as 01's listing has it: "kind, flags, X, Z and value". It is read from the bytes of the list, so that what is compared is what was written there.
+#[derive(Clone, Copy)]
+struct Listed<'a>(&'a [u8; moves::RECORD_SIZE]);
+
+impl Listed<'_> {
+    // The four bytes of a number, which stands at `at`.
+    fn four_at(&self, at: usize) -> [u8; 4]
+        requires { at + 4 ≤ record_size }
+    {
+        let bytes = self.0;
+        [bytes[at], bytes[at + 1], bytes[at + 2], bytes[at + 3]]
+    }
 }
 
-// Writes a place: X and Z, which stand at `at`.
-fn show_place<W: Write>(out: &mut W, buf: &[u8], at: usize) -> io::Result<()>
-    requires { at + 8 ≤ length buf.now }
-{
-    let x = octets::i32_of_bytes(four_at(buf, at));
-    let z = octets::i32_of_bytes(four_at(buf, at + 4));
-    write!(out, "{x} {z} ")
+impl fmt::Display for Listed<'_> {
+    fn fmt<W: fmt::Write>(&self, f: &mut fmt::Formatter<W>) -> fmt::Result {
+        let kind = self.0[moves::AT_KIND];
+        let flags = self.0[moves::AT_FLAGS];
+        let x = octets::i32_of_bytes(self.four_at(moves::AT_X));
+        let z = octets::i32_of_bytes(self.four_at(moves::AT_Z));
+        let value = octets::u32_of_bytes(self.four_at(moves::AT_VALUE));
+        write!(f, "{kind} {flags} {x} {z} {value}")
+    }
 }
 
-// Writes the record whose first byte stands at `at`, as 01's listing has it: "kind, flags, X, Z and value". It is read from the bytes of the list, so that what is
-// compared is what was written there.
-fn show_record<W: Write>(out: &mut W, buf: &[u8], at: usize) -> io::Result<()>
-    requires { at + record_size ≤ length buf.now }
-{
-    let kind = buf[at];
-    let flags = buf[at + 1];
-    write!(out, "{kind} {flags} ")?;
-    show_place(out, buf, at + 4)?;
-    let value = octets::u32_of_bytes(four_at(buf, at + 12));
-    writeln!(out, "{value}")
+// What the last block asks of the runner.
+#[derive(Clone, Copy)]
+struct Next(Request);
+
+impl fmt::Display for Next {
+    fn fmt<W: fmt::Write>(&self, f: &mut fmt::Formatter<W>) -> fmt::Result {
+        match self.0 {
+            Request::On => write!(f, "next on"),
+            Request::Call(program, times) => write!(f, "next call {program} {times}"),
+            Request::Jump(block) => write!(f, "next jump {block}"),
+            Request::Return => write!(f, "next return"),
+            Request::End => write!(f, "next end"),
+        }
+    }
 }
 
 // Writes the first n records of a list.
 fn show_records<W: Write>(out: &mut W, buf: &[u8], n: usize) -> io::Result<()>
     requires { record_start n ≤ length buf.now }
 {
-    let mut k = 0;
-    while k < n {
-        show_record(out, buf, moves::HEADER_SIZE + moves::RECORD_SIZE * k)?;
-        k += 1;
+    let (records, _) = buf[moves::HEADER_SIZE..].as_chunks();
+    for record in &records[..n] {
+        writeln!(out, "{}", Listed(record))?;
     }
     Ok(())
-}
-
-// Writes what the last block asks of the runner.
-fn show_next<W: Write>(out: &mut W, next: Request) -> io::Result<()> {
-    match next {
-        Request::On => writeln!(out, "next on"),
-        Request::Call(program, times) => writeln!(out, "next call {program} {times}"),
-        Request::Jump(block) => writeln!(out, "next jump {block}"),
-        Request::Return => writeln!(out, "next return"),
-        Request::End => writeln!(out, "next end"),
-    }
-}
-
-// Writes the alarm of the last block, or what it asks of the runner.
-fn show_end<W: Write>(out: &mut W, tried: Tried) -> io::Result<()> {
-    let alarm = tried.alarm;
-    if alarm != 0 {
-        return writeln!(out, "ALARM {alarm}");
-    }
-    let next = tried.next;
-    show_next(out, next)
 }
 
 fn show_unreadable<W: Write>(out: &mut W) -> io::Result<()> {
     writeln!(out, "unreadable")
 }
 
-// Runs the blocks and writes what came of them.
+// Runs the blocks and writes what came of them: the records, and the alarm of the last block, or what it asks of the runner.
 fn show_run<W: Write>(out: &mut W, lines: &[u8], buf: &mut [u8]) -> io::Result<()>
     requires { header_size ≤ length buf.old }
 {
-    let came = trying::run_lines(lines, buf);
-    match came {
-        Came::Unreadable => show_unreadable(out),
-        Came::Ran(tried) => {
-            show_records(out, buf, tried.count)?;
-            show_end(out, tried)
-        }
+    let Some(tried) = trying::run_lines(lines, buf) else {
+        return show_unreadable(out);
+    };
+    show_records(out, buf, tried.count)?;
+    match tried.outcome {
+        Ok(next) => writeln!(out, "{}", Next(next)),
+        Err(alarm) => writeln!(out, "ALARM {alarm}"),
     }
 }
 
@@ -125,40 +115,20 @@ fn show<W: Write>(out: &mut W, name: &[u8], room: &[u8], lines: &[u8]) -> io::Re
 
 // Takes a trial apart: the line of its name, the line of its room, and the blocks behind them.
 fn show_trial<W: Write>(out: &mut W, trial: &[u8]) -> io::Result<()> {
-    let first = tape::line::line_at(trial, 0);
-    let name = first.stop;
-    let room = first.after;
-    let second = tape::line::line_at(trial, room);
-    let stop = second.stop;
-    let blocks = second.after;
-    show(out, &trial[..name], &trial[room..stop], &trial[blocks..])
-}
-
-// The place of the mark that ends the trial at `from`, or the end of all.
-fn find_mark(all: &[u8], from: usize) -> usize
-    requires { from ≤ length all.now }
-    ensures { (from ≤ result) × (result ≤ length all.now) }
-{
-    let mut i = from;
-    while i < all.len() {
-        if all[i] == MARK {
-            return i;
-        }
-        i += 1;
-    }
-    i
+    let name = tape::line::line_at(trial, 0);
+    let room = tape::line::line_at(trial, name.after);
+    show(
+        out,
+        &trial[..name.stop],
+        &trial[name.after..room.stop],
+        &trial[room.after..],
+    )
 }
 
 // One trial after the other.
 fn show_all<W: Write>(out: &mut W, all: &[u8]) -> io::Result<()> {
-    let mut p = 0;
-    while p < all.len() {
-        let end = find_mark(all, p);
-        show_trial(out, &all[p..end])?;
-        if end >= all.len() {
-            return Ok(());
-        }
-        p = end + 1;
+    for trial in all.split_inclusive(|byte| *byte == MARK) {
+        show_trial(out, trial.strip_suffix(&[MARK]).unwrap_or(trial))?;
     }
     Ok(())
 }

@@ -14,21 +14,19 @@ use moves::Origin;
 use requests::Request;
 use state::State;
 
-// What came of a block: its alarm, 0 for none, what it asks of the runner, and the state and the count of records after it.
+// What came of a block: what it asks of the runner, or its alarm, and the state and the count of records after it.
 #[derive(Clone, Copy)]
 pub struct Tried {
-    pub alarm: u8,
-    pub next: Request,
+    pub outcome: Result<Request, u8>,
     pub state: State,
     pub count: usize,
 }
 
-// What came of a line: it cannot be read as a block, or its block was run.
-#[derive(Clone, Copy)]
-pub enum Came {
-    Unreadable,
-    Ran(Tried),
-}
+// A trial is no program: its records name none, and no block.
+const NOWHERE: Origin = Origin {
+    program: 0,
+    block: 0,
+};
 
 // What stands before the first block.
 fn begin() -> Tried
@@ -36,69 +34,44 @@ fn begin() -> Tried
 {
     let set = panel::of_listmoves();
     Tried {
-        alarm: 0,
-        next: Request::On,
+        outcome: Ok(Request::On),
         state: state::at_start(set.x, set.z),
         count: 0,
     }
 }
 
-fn is_block(head: Head) -> bool {
-    match head {
-        Head::BlockLine(_) => true,
-        Head::ProgramLine(_) => false,
-        Head::Blank => false,
-        Head::Other(_) => false,
-    }
-}
-
-// A trial is no program: its records name none, and no block.
-fn nowhere() -> Origin {
-    Origin {
-        program: 0,
-        block: 0,
-    }
-}
-
-// Runs the block of a line, after what the block before it did.
-fn run_line(line: &[u8], table: &[i32], before: Tried, buf: &mut [u8]) -> Came
+// Runs the block of a line, after what the block before it did: nothing where the line cannot be read as a block.
+fn run_line(line: &[u8], table: &[i32], before: Tried, buf: &mut [u8]) -> Option<Tried>
     requires { Table table.now × (header_size ≤ length buf.old) × Carried (room_of (length buf.old)) before }
     ensures { CameWith (room_of (length buf.old)) result }
 {
     if line.len() > block::LONGEST_LINE {
-        return Came::Unreadable;
+        return None;
     }
     let read = block::read_line(line);
-    let head = read.head;
     let b = read.block;
-    let wrong = read.faulty | !is_block(head);
-    if wrong | rules::breaks_rules(b) {
-        return Came::Unreadable;
+    if read.faulty || !matches!(read.head, Head::BlockLine(_)) || rules::breaks_rules(b) {
+        return None;
     }
     let state = before.state;
     let set = panel::of_listmoves();
-    let outcome = machine::run_block(table, set, state, b, buf, before.count, nowhere());
+    let outcome = machine::run_block(table, set, state, b, buf, before.count, NOWHERE);
     match outcome {
-        BlockOutcome::Refused(alarm) => Came::Ran(Tried {
-            alarm,
-            next: Request::On,
+        BlockOutcome::Refused(alarm) => Some(Tried {
+            outcome: Err(alarm),
             state,
             count: before.count,
         }),
-        BlockOutcome::Done(done) => {
-            let after = done.state;
-            Came::Ran(Tried {
-                alarm: 0,
-                next: requests::request_of(b),
-                state: after,
-                count: done.count,
-            })
-        }
+        BlockOutcome::Done(done) => Some(Tried {
+            outcome: Ok(requests::request_of(b)),
+            state: done.state,
+            count: done.count,
+        }),
     }
 }
 
-// Runs the blocks of a trial, and answers what came of the last.
-pub fn run_lines(lines: &[u8], buf: &mut [u8]) -> Came
+// Runs the blocks of a trial, and answers what came of the last: nothing where a line cannot be read as a block.
+pub fn run_lines(lines: &[u8], buf: &mut [u8]) -> Option<Tried>
     requires { header_size ≤ length buf.old }
     ensures { CameWith (room_of (length buf.old)) result }
 {
@@ -107,16 +80,11 @@ pub fn run_lines(lines: &[u8], buf: &mut [u8]) -> Came
     let mut p = 0;
     while p < lines.len() {
         let line = tape::line::line_at(lines, p);
-        let stop = line.stop;
-        let came = run_line(&lines[p..stop], &table, tried, buf);
-        let Came::Ran(t) = came else {
-            return Came::Unreadable;
-        };
-        if t.alarm != 0 {
-            return Came::Ran(t);
+        tried = run_line(&lines[p..line.stop], &table, tried, buf)?;
+        if tried.outcome.is_err() {
+            return Some(tried);
         }
-        tried = t;
         p = line.after;
     }
-    Came::Ran(tried)
+    Some(tried)
 }

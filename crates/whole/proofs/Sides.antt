@@ -28,19 +28,9 @@ record Neg (n : ℕ) : Type 0 where
 neg : (n : ℕ) → Neg n
 neg n = record { up_neg = up_neg (pos n); down_neg = down_neg (pos n) }
 
-pub is_plus : (z : ℤ) → down z < up z → Plus ≡ side_of z
-is_plus (pos zero) h = absurd (omega arith)
-is_plus (pos (suc n)) h = refl
-is_plus (negsuc n) h = absurd (omega arith)
-
 pub is_minus : (z : ℤ) → up z < down z → Minus ≡ side_of z
 is_minus (pos n) h = absurd (omega arith)
 is_minus (negsuc n) h = refl
-
-pub is_zero : (z : ℤ) → up z ≡ down z → Zero ≡ side_of z
-is_zero (pos zero) h = refl
-is_zero (pos (suc n)) h = absurd (omega arith)
-is_zero (negsuc n) h = absurd (omega arith)
 
 -- two lengths to one side, one after the other
 pub along_add : (a : ℤ) (s : Side) (m n : ℕ) → (a +ℤ along s m) +ℤ along s n ≡ a +ℤ along s (m + n)

@@ -10,6 +10,8 @@ ghost use Rattle.std.specs.Int.{w32};
 ghost use Rattle.std.proofs.Common.{SFits};
 ghost use Rattle.whole.specs.Signed.{side_of, along};
 
+use std::cmp::Ordering;
+
 #[derive(Clone, Copy)]
 pub enum Side {
     Minus,
@@ -21,31 +23,25 @@ pub enum Side {
 pub fn distance(a: i32, b: i32) -> u32
     ensures { result ≡ nat_abs (a -ℤ b) }
 {
-    if a < b {
-        ((b as i64) - (a as i64)) as u32
-    } else {
-        ((a as i64) - (b as i64)) as u32
-    }
+    a.abs_diff(b)
 }
 
 // How far a number is from zero.
 pub fn magnitude(v: i32) -> u32
     ensures { result ≡ nat_abs v }
 {
-    distance(v, 0)
+    v.unsigned_abs()
 }
 
 // On which side of `from` the number `to` lies.
 pub fn side_of(from: i32, to: i32) -> Side
     ensures { result ≡ side_of (to -ℤ from) }
 {
-    if from < to {
-        return Side::Plus;
+    match to.cmp(&from) {
+        Ordering::Less => Side::Minus,
+        Ordering::Equal => Side::Zero,
+        Ordering::Greater => Side::Plus,
     }
-    if to < from {
-        return Side::Minus;
-    }
-    Side::Zero
 }
 
 // Where a step of a length to a side leads, however far.
@@ -53,9 +49,9 @@ fn reach(from: i32, side: Side, by: u32) -> i64
     ensures { result ≡ from +ℤ along side by }
 {
     match side {
-        Side::Plus => (from as i64) + (by as i64),
-        Side::Minus => (from as i64) - (by as i64),
-        Side::Zero => from as i64,
+        Side::Plus => i64::from(from) + i64::from(by),
+        Side::Minus => i64::from(from) - i64::from(by),
+        Side::Zero => i64::from(from),
     }
 }
 

@@ -26,6 +26,7 @@ impl Position {
     pub const TARGET_GREATEST: i32 = 39_999_996;
 
     // Whether a number is in the table's range.
+    #[tactic(auto, unfolding(crate::specs::Position::in_table))]
     pub fn in_table(v: i32) -> bool
         ensures { result ≡ in_table v }
     {
@@ -33,13 +34,14 @@ impl Position {
     }
 
     // The position v, where a target may be there. Words, offsets and positions in their ranges are never refused (proofs/Positions.antt).
+    #[tactic(auto, unfolding(crate::specs::Position::placed))]
     pub fn place(v: i64) -> Placed
         ensures { result ≡ placed v }
     {
-        if v < (Position::TARGET_LEAST as i64) {
+        if v < i64::from(Position::TARGET_LEAST) {
             return Placed::Outside;
         }
-        if (Position::TARGET_GREATEST as i64) < v {
+        if i64::from(Position::TARGET_GREATEST) < v {
             return Placed::Outside;
         }
         Placed::At(Position { um: v as i32 })
@@ -49,7 +51,7 @@ impl Position {
     fn sum(a: i32, b: i32) -> Placed
         ensures { result ≡ placed (a +ℤ b) }
     {
-        Position::place((a as i64) + (b as i64))
+        Position::place(i64::from(a) + i64::from(b))
     }
 
     // The target of an X word: a diameter, as the offset is.
@@ -70,7 +72,7 @@ impl Position {
     pub fn moved_by_u(present: i32, u: i32) -> Placed
         ensures { result ≡ placed (present +ℤ pos 2 *ℤ u) }
     {
-        Position::place((present as i64) + 2 * (u as i64))
+        Position::place(i64::from(present) + 2 * i64::from(u))
     }
 
     // The target of a W word, from where the Z axis stands.

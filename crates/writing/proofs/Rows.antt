@@ -1,17 +1,13 @@
 -- Records where they are wanted, and how many they are.
 -- Assumes nothing.
-use mathlib.Core.Path.{◌≡◌, refl, ap, ◌∙◌}
+use mathlib.Core.Path.{◌≡◌, refl}
 use mathlib.Core.Bool.{Bool, true, false}
 use mathlib.Core.List.{◌++◌}
-use Prim.Native.Nat.{ℕ, ◌+◌}
+use Prim.Native.Nat.{◌+◌}
 use native.Mathlib.Omega.{arith}
 use lib.ListN.{length, length-append}
 use Rattle.moves.specs.declared.Record.{Record}
 use Rattle.writing.specs.Writes.{one_if, number_if}
-
--- how many records a word gives, as the code counts
-pub counted : {t u : Bool} {n : ℕ} → n ≡ number_if t → t ≡ u → n ≡ number_if u
-counted e h = e ∙ ap number_if h
 
 -- how many records that is
 pub one_length : (t : Bool) (r : Record) → length (one_if t r) ≡ number_if t

@@ -3,7 +3,7 @@
 #![tactic(auto)]
 
 ghost use Rattle.std.specs.Prelude.{◌≡◌, ◌≤◌};
-ghost use Rattle.writing.specs.Writes.{number_if, moved, done, stops, other_count};
+ghost use Rattle.writing.specs.Writes.{moved, done, stops, other_count};
 
 use block::Block;
 use deeds::Deed;
@@ -17,21 +17,15 @@ const COOLANT: usize = block::COOLANT;
 const FLOW: usize = block::FLOW;
 
 // A state that stands elsewhere.
+#[tactic(auto, unfolding(crate::specs::Writes::moved))]
 fn moved(s: State, due: bool, x: i32, z: i32) -> State
     ensures { result ≡ moved s due x z }
 {
-    let motion = s.motion;
     State {
-        motion,
-        g96: s.g96,
-        g95: s.g95,
-        shift_group3: s.shift_group3,
-        shift_group5: s.shift_group5,
-        correction: s.correction,
-        f: s.f,
         rapid_due: due,
         x,
         z,
+        ..s
     }
 }
 
@@ -65,20 +59,15 @@ pub fn stops(b: Block) -> bool
     block::has(b, FLOW) & !acts::returns_by(code)
 }
 
-fn number_if(wanted: bool) -> u32
-    ensures { (result ≡ number_if wanted) × (result ≤ 1) }
-{
-    if wanted { 1 } else { 0 }
-}
-
 // How many records a block has beside its deed's.
+#[tactic(auto, unfolding(crate::specs::Writes::other_count))]
 pub fn other_count(b: Block) -> u32
     ensures { (result ≡ other_count b) × (result ≤ 5) }
 {
-    let speed = number_if(block::has(b, block::S));
-    let tool = number_if(block::has(b, block::T));
-    let spindle = number_if(block::has(b, SPINDLE));
-    let coolant = number_if(block::has(b, COOLANT));
-    let stop = number_if(stops(b));
+    let speed = u32::from(block::has(b, block::S));
+    let tool = u32::from(block::has(b, block::T));
+    let spindle = u32::from(block::has(b, SPINDLE));
+    let coolant = u32::from(block::has(b, COOLANT));
+    let stop = u32::from(stops(b));
     speed + tool + (spindle + coolant) + stop
 }

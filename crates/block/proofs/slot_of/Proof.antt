@@ -63,11 +63,11 @@ returns_10 c = (rw c.in-76.is, omega arith)
 
 returns_11 : tie.Need-returns-in-80
 unfolding slot_of
-returns_11 c = (rw c.in-80.is (ap (λ (n : ℕ). At (p_slot n)) c.wide-index.ensures), omega arith)
+returns_11 c = (rw c.in-80.is (ap (λ (n : ℕ). At (p_slot n)) c.from-index.ensures), omega arith)
 
 returns_12 : tie.Need-returns-in-68
 unfolding slot_of
-returns_12 c = (rw c.in-68.is (ap (λ (n : ℕ). At (d_slot n)) c.wide-index.ensures), omega arith)
+returns_12 c = (rw c.in-68.is (ap (λ (n : ℕ). At (d_slot n)) c.from-index.ensures), omega arith)
 
 returns_13 : tie.Need-returns-in-71
 unfolding slot_of

@@ -5,7 +5,7 @@ use mir.Val.{SFits}
 use mir.Facts.{to_z-of_z}
 use borrow.Author.Rules.{rules}
 use Rattle.axes.specs.Goes.{rapid_to}
-use Rattle.passes.specs.declared.Stage.TheVariants.{In}
+use Rattle.axes.specs.declared.Stage.TheVariants.{In}
 use Rattle.passes.specs.Cursor.{rest_at}
 use Rattle.passes.proofs.Cursors.{within}
 use Rattle.passes.proofs.go_back.Statement.{statement}

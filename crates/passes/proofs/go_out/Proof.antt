@@ -5,7 +5,7 @@ use mir.Val.{SFits}
 use mir.Facts.{to_z-of_z}
 use borrow.Author.Rules.{rules}
 use Rattle.axes.specs.Goes.{feed_to}
-use Rattle.passes.specs.declared.Stage.TheVariants.{Back}
+use Rattle.axes.specs.declared.Stage.TheVariants.{Back}
 use Rattle.passes.specs.Cursor.{rest_at}
 use Rattle.passes.proofs.Cursors.{within}
 use Rattle.passes.proofs.go_out.Statement.{statement}

@@ -1,7 +1,7 @@
 -- `passes::is_over` meets its contract.
 use mathlib.Core.Path.{◌≡◌, sym}
 use borrow.Author.Rules.{rules}
-use Rattle.passes.specs.declared.Stage.TheVariants.{In, Cut, Out, Back}
+use Rattle.axes.specs.declared.Stage.TheVariants.{In, Cut, Out, Back}
 use Rattle.passes.proofs.Cursors.{over_at_lem}
 use Rattle.passes.proofs.is_over.Statement.{statement}
 use Rattle.passes.proofs.is_over.Tie as tie

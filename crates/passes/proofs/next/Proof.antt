@@ -1,7 +1,7 @@
 -- `passes::next` meets its contract.
 use mathlib.Core.Path.{◌≡◌}
 use borrow.Author.Rules.{rules}
-use Rattle.passes.specs.declared.Stage.TheVariants.{In}
+use Rattle.axes.specs.declared.Stage.TheVariants.{In}
 use Rattle.passes.proofs.Cursors.{some_left}
 use Rattle.passes.proofs.next.Statement.{statement}
 use Rattle.passes.proofs.next.Tie as tie

@@ -8,7 +8,7 @@ use Rattle.division.specs.Carried.{row_of}
 use Rattle.division.specs.Division.{pieces}
 use Rattle.axes.specs.Axis.{side, net}
 use Rattle.passes.specs.declared.Cursor.{Cursor}
-use Rattle.passes.specs.declared.Stage.TheVariants.{In}
+use Rattle.axes.specs.declared.Stage.TheVariants.{In}
 use Rattle.turning.specs.Turning.{pass_count, row, turning}
 use Rattle.passes.specs.Cursor.{rest_of, Sound}
 use Rattle.turning.proofs.Asked.{long_enough}

@@ -9,7 +9,7 @@ use mir.Val.{SFits, to_z, of_z}
 use mir.Facts.{to_z-of_z}
 use Rattle.whole.specs.Signed.{side_of, along}
 use Rattle.whole.specs.declared.Side.{Side}
-use Rattle.whole.specs.declared.Side.TheVariants.{Minus, Zero, Plus}
+use Rattle.whole.specs.declared.Side.TheVariants.{Zero, Plus}
 use Rattle.whole.proofs.Sides.{along_zero, no_way, toward}
 use Rattle.grooving.specs.Grooving.{deep_at}
 use Rattle.plunges.proofs.deep_at.Statement.{statement}

@@ -30,8 +30,8 @@ three : (c : tie.After-pair_of-tool) → Three c.args.table.now c.args.s
 three c =
     let s = c in
     let table = s.args.table.now in
-    let f = c.pair_of-first.ensures ∙ ap (pair_of table) c.wide.ensures in
-    let g = c.pair_of-second.ensures ∙ ap (pair_of table) c.wide-2.ensures in
+    let f = c.pair_of-first.ensures in
+    let g = c.pair_of-second.ensures in
     let h = c.pair_of-tool.ensures ∙ ap (pair_of table) c.correction_pair.ensures in
     record {
       first = f;
@@ -69,9 +69,9 @@ pub offset_of_spec : {M : Type 1} → statement M
 offset_of_spec =
     tie.close
     (tie.spec
+    (λ c. search rules)
     (λ c κs. search rules)
-    (λ c κs. search rules)
-    (λ c κs. search rules)
+    (λ c. search rules)
     (λ c κs. search rules)
     (λ c κs. search rules)
     pair_of_requires_3

@@ -5,7 +5,7 @@ use mir.Val.{SFits}
 use mir.Facts.{to_z-of_z}
 use borrow.Author.Rules.{rules}
 use Rattle.axes.specs.Goes.{rapid_to}
-use Rattle.threads.specs.declared.Stage.TheVariants.{In}
+use Rattle.axes.specs.declared.Stage.TheVariants.{In}
 use Rattle.threads.specs.Cursor.{rest_at}
 use Rattle.threads.proofs.Cursors.{within}
 use Rattle.threads.proofs.go_back.Statement.{statement}

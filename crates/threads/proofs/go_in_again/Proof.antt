@@ -6,7 +6,7 @@ use mir.Val.{SFits}
 use mir.Facts.{to_z-of_z}
 use borrow.Author.Rules.{rules}
 use Rattle.axes.specs.Goes.{rapid_to}
-use Rattle.threads.specs.declared.Stage.TheVariants.{Cut}
+use Rattle.axes.specs.declared.Stage.TheVariants.{Cut}
 use Rattle.threads.proofs.Cursors.{goes_again}
 use Rattle.threads.proofs.go_in_again.Statement.{statement}
 use Rattle.threads.proofs.go_in_again.Tie as tie

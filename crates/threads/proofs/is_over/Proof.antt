@@ -3,7 +3,7 @@ use mathlib.Core.Path.{◌≡◌, sym, ◌∙◌, ap}
 use mathlib.Core.Bool.{Bool, ◌&&◌}
 use lib.Dec.{eqb}
 use borrow.Author.Rules.{rules}
-use Rattle.threads.specs.declared.Stage.TheVariants.{In, Cut, Out, Back}
+use Rattle.axes.specs.declared.Stage.TheVariants.{In, Cut, Out, Back}
 use Rattle.threads.proofs.Cursors.{over_at_lem}
 use Rattle.threads.proofs.is_over.Statement.{statement}
 use Rattle.threads.proofs.is_over.Tie as tie

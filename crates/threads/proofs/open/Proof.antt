@@ -5,7 +5,7 @@ use mir.Facts.{to_z-of_z}
 use borrow.Author.Rules.{rules, sfits_of}
 use Rattle.axes.specs.Axis.{side}
 use Rattle.threads.specs.declared.Cursor.{Cursor}
-use Rattle.threads.specs.declared.Stage.TheVariants.{In}
+use Rattle.axes.specs.declared.Stage.TheVariants.{In}
 use Rattle.threading.specs.Threading.{threading}
 use Rattle.threads.specs.Cursor.{rest_of, Sound}
 use Rattle.threading.proofs.Asked.{right}

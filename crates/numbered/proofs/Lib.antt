@@ -1,2 +1,0 @@
--- The laws of the numbers that are lent.
-pub mod Lent
