@@ -2,12 +2,14 @@
 // between the next two.
 ghost use Rattle.std.specs.Prelude.{◌+◌, ◌<◌, length, IfSome};
 ghost use Rattle.std.specs.Iterator.{at_most};
+ghost use Rattle.stored.specs.Texts.{PartOf};
 
 use crate::text;
 
 // What stands before the next line of three backticks, and what behind it.
 fn split_at_mark(page: &[u8]) -> Option<(&[u8], &[u8])>
-    ensures { IfSome result (λ parts. length parts.0.now + length parts.1.now < length page.now) }
+    ensures onward { IfSome result (λ parts. length parts.0.now + length parts.1.now < length page.now) }
+    ensures parts { IfSome result (λ parts. PartOf page.now parts.0.now parts.1.now) }
 {
     let mut rest = page;
     while !rest.is_empty() {
@@ -22,7 +24,8 @@ fn split_at_mark(page: &[u8]) -> Option<(&[u8], &[u8])>
 
 // What stands between the next two such lines, and what behind them.
 pub fn fence_from(page: &[u8]) -> Option<(&[u8], &[u8])>
-    ensures { IfSome result (λ parts. length parts.0.now + length parts.1.now < length page.now) }
+    ensures onward { IfSome result (λ parts. length parts.0.now + length parts.1.now < length page.now) }
+    ensures parts { IfSome result (λ parts. PartOf page.now parts.0.now parts.1.now) }
 {
     let (_, behind) = split_at_mark(page)?;
     split_at_mark(behind)

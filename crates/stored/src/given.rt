@@ -1,8 +1,9 @@
 // What a case is run with: the numbers of the table and the settings. They stand in one array, the table's 208 first and then the settings, as 01's
 // `listmoves` has them until a line names another: `=retract 300`, `=empty 2`, `=points 1`, `=offset 3 -1500` for number 3 of the table, `=bytes 24` for the buffer's size, `=numbers 207` for a table cut short, `=held 3` for the entries of the table of places; the first two letters of a word tell it.
-ghost use Rattle.std.specs.Prelude.{◌≡◌, ◌<◌, ◌≤◌, length, IfSome};
+ghost use Rattle.std.specs.Prelude.{◌≡◌, ◌<◌, ◌≤◌, IfSome};
 ghost use Rattle.settings.specs.Wrong.{table_size};
 ghost use Rattle.stored.specs.Given.{usual};
+ghost use Rattle.stored.specs.Texts.{EndOf};
 
 use crate::text;
 use numbers::{Number, NumberForm};
@@ -143,7 +144,7 @@ fn setting_of(line: &[u8]) -> Option<(usize, i32)>
 
 // Reads the lines at the front of a text that begin with `=`, and answers what stands behind them: nothing where one of them cannot be read.
 pub fn read_given<'a>(text: &'a [u8], given: &mut [i32; ALL]) -> Option<&'a [u8]>
-    ensures { IfSome result (λ rest. length rest.now ≤ length text.now) }
+    ensures { IfSome result (λ rest. EndOf text.now rest.now) }
 {
     let mut rest = text;
     loop {

@@ -1,0 +1,2 @@
+-- The laws of what stands in a text.
+pub mod Parts
