@@ -1,6 +1,5 @@
 -- Laws of a row of entries whose keys ascend: where a key lies, what is looked up in it, and the row with one entry more.
 -- Assumes nothing.
-use mathlib.Core.Logic.{◌⊎◌, inl, inr}
 use mathlib.Core.Path.{◌≡◌, refl, sym, ap, ◌∙◌}
 use mathlib.Core.Bool.{Bool, true, false, cond}
 use mathlib.Core.List.{List, [], ◌∷◌, ◌++◌}
@@ -10,9 +9,6 @@ use lib.Dec.{ltb, eqb}
 use lib.ListN.{length, get_or, take, drop, length-take, length-drop, length-append}
 use lib.Seq.{get_or-take, take_at, drop_at}
 use borrow.Author.Tests.{ltb-true, ltb-false, lt-ltb, le-ltb, eq-eqb, ne_eqb, eqb-true, eqb-false}
-use Rattle.std.specs.List.Sorted.{IsNonDecreasingBy, IsPartitionedBy, IsPartitionPoint}
-use Rattle.std.proofs.lemmas.Bool.{cases_lt}
-use Rattle.std.proofs.lemmas.List.Sorted.{IsNonDecreasingBy-from_default, IsPartitionedBy-ltb}
 use Rattle.places.specs.declared.Found.{Found}
 use Rattle.places.specs.declared.Found.TheVariants.{At, Nowhere}
 use Rattle.places.specs.Places.{sixteen_bits, entry_of, key_in, place_in, Above, Row, below, inserted, looked_up}
@@ -32,16 +28,6 @@ above_at : (k : ℕ) (row : List ℕ) (i : ℕ) → Above k row → i < length r
 above_at k [] i a h = absurd (omega arith)
 above_at k (e ∷ es) zero a h = a.0
 above_at k (e ∷ es) (suc i) a h = above_at k es i a.1 (omega arith)
-
-rising : (row : List ℕ) → Row row → IsNonDecreasingBy key_in row
-rising row r = IsNonDecreasingBy-from_default key_in row 0 (λ i j. from row r i j)
-  where
-    from : (row : List ℕ) → Row row → (i j : ℕ) → i ≤ j → j < length row → key_in (get_or row i 0) ≤ key_in (get_or row j 0)
-    from [] r i j h l = absurd (omega arith)
-    from (e ∷ es) r zero zero h l = omega arith
-    from (e ∷ es) r zero (suc j) h l = omega (arith, above_at (key_in e) es j r.0 (omega arith))
-    from (e ∷ es) r (suc i) zero h l = absurd (omega arith)
-    from (e ∷ es) r (suc i) (suc j) h l = from es r.1 i j (omega arith) (omega arith)
 
 above_up : (k m : ℕ) (row : List ℕ) → k ≤ m → Above m row → Above k row
 above_up k m [] l a = tt
@@ -175,22 +161,8 @@ module _ (k : ℕ) (t : List ℕ) (n i : ℕ) (h : i < n) (l : n ≤ length t) w
   pub past : Row (take n t) → key_in (get_or t i 0) < k → i < below k (take n t)
   past r e = below_past k (take n t) i r (omega (arith, length-take n t)) (rw (get_or-take n t i 0 h) e)
 
--- what a halving search asks of the row, and what its answer is there
-module _ (k : ℕ) (row : List ℕ) where
-  pub row_parted : Row row → IsPartitionedBy (λ y. ltb (key_in y) k) row
-  row_parted r = IsPartitionedBy-ltb key_in row k (rising row r)
-
-  pub point_below : (i : ℕ) → Row row → i ≤ length row → IsPartitionPoint (λ y. ltb (key_in y) k ≡ true) (λ y. ltb (key_in y) k ≡ false) row i → i ≡ below k row
-  point_below i r h p = by (cases_lt i (below k row)) (cases_lt (below k row) i)
-    where
-      by : (i < below k row) ⊎ (below k row ≤ i) → (below k row < i) ⊎ (i ≤ below k row) → i ≡ below k row
-      by (inl x) y =
-          let l : i < length row = omega (arith, x, below_within k row) in
-          absurd (omega (arith, x, below_stop k row i l (ltb-false _ _ (p.1 i 0 (omega arith) l))))
-      by (inr x) (inl y) =
-          let l : below k row < length row = omega arith in
-          absurd (omega (arith, below_past k row (below k row) r l (ltb-true _ _ (p.0 (below k row) 0 (omega arith) y))))
-      by (inr x) (inr y) = omega arith
+  pub stop : k ≤ key_in (get_or t i 0) → below k (take n t) ≤ i
+  stop e = below_stop k (take n t) i (omega (arith, length-take n t)) (rw (get_or-take n t i 0 h) e)
 
 pub row_within : (k : ℕ) (t : List ℕ) (n : ℕ) → below k (take n t) ≤ n
 row_within k t n = omega (arith, below_within k (take n t), length-take n t)

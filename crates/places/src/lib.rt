@@ -60,7 +60,18 @@ fn below_key(table: &[u64], count: usize, key: u64) -> usize
     if top < key {
         return count;
     }
-    table[..count].partition_point(|entry| key_in(*entry) < key)
+    let mut low: usize = 0;
+    let mut high = last;
+    while low < high {
+        let mid = low + (high - low) / 2;
+        let here = key_in(table[mid]);
+        if here < key {
+            low = mid + 1;
+        } else {
+            high = mid;
+        }
+    }
+    low
 }
 
 // The place of the line with a key among the first `count` entries, where they ascend. So it is with the two that follow.
