@@ -22,17 +22,27 @@ pub enum Refusal {
     BadIndex,
 }
 
-// Its number, as a caller in C gets it.
+// The numbers of the refusals, as a caller in C gets them.
+pub const BAD_MARK: u32 = 1;
+
+pub const BAD_VERSION: u32 = 2;
+
+pub const BAD_LENGTH: u32 = 3;
+
+pub const BAD_RECORD: u32 = 4;
+
+pub const BAD_INDEX: u32 = 5;
+
 impl From<Refusal> for u32 {
     ghost from_gives = { λ refusal n. n ≡ refusal_number refusal };
 
     fn from(refusal: Refusal) -> u32 {
         match refusal {
-            Refusal::BadMark => 1,
-            Refusal::BadVersion => 2,
-            Refusal::BadLength => 3,
-            Refusal::BadRecord => 4,
-            Refusal::BadIndex => 5,
+            Refusal::BadMark => BAD_MARK,
+            Refusal::BadVersion => BAD_VERSION,
+            Refusal::BadLength => BAD_LENGTH,
+            Refusal::BadRecord => BAD_RECORD,
+            Refusal::BadIndex => BAD_INDEX,
         }
     }
 }
