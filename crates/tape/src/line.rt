@@ -97,6 +97,7 @@ pub fn line_at(tape: &[u8], from: usize) -> Line
 }
 
 // Past the `)` of the comment whose text begins at `from`.
+#[tactic(auto, using(crate::proofs::Lining::gap_return))]
 fn skip_comment(line: &[u8], from: usize) -> Gap
     requires { from ≤ length line.now }
     ensures { Closed result line.now from }
