@@ -1,10 +1,10 @@
 // A record as seven numbers, as a caller in C gets it: kind, flags, X, Z, value, program and block. A list of version 1 has no program and block, and both are -1.
 #![tactic(auto)]
 
-ghost use Rattle.std.specs.Prelude.{◌≡◌, length};
+ghost use Rattle.std.specs.Prelude.{◌≡◌, ◌++◌, ◌≤◌, length, drop};
 ghost use Rattle.judging.specs.Judging.{judged};
 ghost use Rattle.readback.specs.Lists.{read_of, read_judged};
-ghost use Rattle.numbered.specs.Numbers.{program_of, block_of, numbers_of, refusal_of, answer_of, numbers_after};
+ghost use Rattle.numbered.specs.Numbers.{program_of, block_of, numbers_count, numbers_of, refusal_of, answer_of, numbers_after};
 
 use judging::Refusal;
 use moves::{Origin, Record};
@@ -50,6 +50,20 @@ fn numbers_of(what: Record, source: Option<Origin>) -> [i64; COUNT]
     ]
 }
 
+// One by one: a copy of the seven at once would keep them below the stack pointer first, and ask whether the two overlap.
+fn put_numbers(numbers: &mut [i64], seven: [i64; COUNT])
+    requires { numbers_count ≤ length numbers.old }
+    ensures { numbers.new ≡ seven ++ drop numbers_count numbers.old }
+{
+    numbers[0] = seven[0];
+    numbers[1] = seven[1];
+    numbers[2] = seven[2];
+    numbers[3] = seven[3];
+    numbers[4] = seven[4];
+    numbers[5] = seven[5];
+    numbers[6] = seven[6];
+}
+
 // What came of a reading: 0 and the numbers of the record, or why it is refused, and then the numbers are as they came.
 #[tactic(auto, unfolding(crate::specs::Numbers::answer_of, crate::specs::Numbers::numbers_after))]
 fn answer(back: Result<(Record, Option<Origin>), Refusal>, numbers: &mut [i64]) -> u32
@@ -62,7 +76,7 @@ fn answer(back: Result<(Record, Option<Origin>), Refusal>, numbers: &mut [i64]) 
             if numbers.len() < COUNT {
                 return TOO_FEW_NUMBERS;
             }
-            numbers[..COUNT].copy_from_slice(&numbers_of(what, source));
+            put_numbers(numbers, numbers_of(what, source));
             0
         }
     }

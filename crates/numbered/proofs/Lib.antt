@@ -1,0 +1,2 @@
+-- The laws of the numbers that are lent.
+pub mod Lent
